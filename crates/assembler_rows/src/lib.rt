@@ -16,6 +16,8 @@ mod operand_edges;
 #[cfg(test)]
 mod operations;
 #[cfg(test)]
+mod refused_lines;
+#[cfg(test)]
 mod sources;
 #[cfg(test)]
 mod texts;

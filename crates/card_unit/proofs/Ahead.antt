@@ -70,12 +70,12 @@ any_ready None (pile.Deck reader) w turn = is_ahead reader w turn
 any_ready (Some front) p w turn = turn
 
 -- what holds of all entries holds of those that are told
-always : (told : Option (List Entry)) (P : List Entry → Type 0) → ((es : List Entry) → P es) → IfSome told P
+pub always : (told : Option (List Entry)) (P : List Entry → Type 0) → ((es : List Entry) → P es) → IfSome told P
 always None P holds = tt
 always (Some es) P holds = holds es
 
 -- a hopper is one ahead where its pile and its data are in turn
-turn_ahead : (h : Hopper) (w : World) → IsPileInTurn h.pile w → lines.IsInTurn h.data w → IsOneAhead h w
+pub turn_ahead : (h : Hopper) (w : World) → IsPileInTurn h.pile w → lines.IsInTurn h.data w → IsOneAhead h w
 turn_ahead h w pile turn = record {
   pile = any_ready h.front h.pile w pile;
   reader = is_ahead h.data w turn;

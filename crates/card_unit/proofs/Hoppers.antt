@@ -1,6 +1,6 @@
 -- A hopper whose pile and whose data are asked, one after the other.
 use Rattle.std.proofs.Common.{◌≡◌, ℕ, Bool, true, false, List, [], ◌∷◌, ◌++◌, refl, sym, ◌∙◌, ap, subst, arith}
-use Rattle.std.specs.Prelude.{Option, None, option_map, ◌||◌, Ok, Err}
+use Rattle.std.specs.Prelude.{Option, Some, None, option_map, ◌||◌, Ok, Err}
 use Rattle.outside_io.specs.declared.host.Unit as unit
 use Rattle.outside_io.specs.declared.host.Unit.TheVariants as units
 use Rattle.outside_io.specs.World.{World, Seen, same_unit}
@@ -18,7 +18,7 @@ use Rattle.card_unit.specs.declared.pile.Pile.{Pile}
 use Rattle.card_unit.specs.declared.pile.Pile.TheVariants as pile
 use Rattle.card_unit.specs.declared.hopper.Hopper.{Hopper}
 use Rattle.card_unit.specs.Pile.{pile_left, pile_unit, no_unit, is_card_unit, LooksAt}
-use Rattle.card_unit.specs.Hopper.{entries_in_order, front_left, hopper_left, hopper_feed, Looks, HoldsFront, SaysBehind, HasBehind}
+use Rattle.card_unit.specs.Hopper.{entries_in_order, front_left, hopper_left, hopper_feed, Looks, HoldsFront, SaysBehind, HasBehind, TellsAtLeast, DataStays}
 use Rattle.card_code.specs.Feed.{Stays, Gives, Lacks}
 use Rattle.card_unit.proofs.Joined.{given_none, none_after, some_after, jam_pile, jam_data, given_long, given_card, behind_front}
 
@@ -62,12 +62,16 @@ lines_apart reads lines before after other looks =
 rest_apart : (h : Hopper) (before after : Seen) → LooksAt (same_unit units.Deck) before after → entries_left h.data after.world ≡ entries_left h.data before.world
 rest_apart h before after looks = lines_apart (same_unit units.Deck) h.data before after (ap (λ (u : unit.Unit). same_unit units.Deck u) h.data_is) looks
 
--- the entries of a pile stay where the bytes of Deck do
-pub pile_same : (p : Pile) (v w : World) → pile_unit p ≡ units.Deck → w.left units.Deck ≡ v.left units.Deck → pile_left p w ≡ pile_left p v
-pile_same (pile.Cards cards gone) v w is left = refl
-pile_same (pile.Deck reader) v w is left =
+-- the entries of a reader stay where the bytes of its unit do
+pub lines_same : (reader : Lines) (u : unit.Unit) (v w : World) → unit_of reader ≡ u → w.left u ≡ v.left u → entries_left reader w ≡ entries_left reader v
+lines_same reader u v w is left =
     let same : w.left (unit_of reader) ≡ v.left (unit_of reader) = ap (λ (u : unit.Unit). w.left u) is ∙ left ∙ sym (ap (λ (u : unit.Unit). v.left u) is) in
     ap (λ (told : Option (List ℕ)). option_map (entries_of_unit (unit_of reader) (lines_handed_out reader)) (option_map (λ l. bytes_held reader ++ l) told)) same
+
+-- and those of a pile, where the bytes of Deck do
+pub pile_same : (p : Pile) (v w : World) → pile_unit p ≡ units.Deck → w.left units.Deck ≡ v.left units.Deck → pile_left p w ≡ pile_left p v
+pile_same (pile.Cards cards gone) v w is left = refl
+pile_same (pile.Deck reader) v w is left = lines_same reader units.Deck v w is left
 
 -- a look at the data leaves the pile
 pub pile_apart : (p : Pile) (before after : Seen) → pile_unit p ≡ units.Deck → LooksAt (same_unit units.Data) before after → pile_left p after.world ≡ pile_left p before.world
@@ -155,3 +159,13 @@ front_taken old mid end new before between after front last text holds says none
       given = subst (λ (t : List ℕ). Given (hopper_left old before.world) (λ es. next_card es ≡ Ok (record { text = t; last = last }))) (sym is)
           (subst (λ (told : Option (List Entry)). Given told (λ es. next_card es ≡ Ok (record { text = text_as_card (front_text front); last = last }))) whole given);
     }
+
+-- two entries at least in the deck are one at least there, and one behind it
+pub one_of_two : (told : Option (List Entry)) → TellsAtLeast 2 told → TellsAtLeast 1 told × TellsAtLeast 1 (option_map behind told)
+one_of_two None two = absurd two
+one_of_two (Some []) two = absurd (omega (arith, two))
+one_of_two (Some (e ∷ es)) two = (omega (arith, two), omega (arith, two))
+
+-- Data that stay twice stay
+pub stay_on : (before mid after : Seen) → DataStays before mid → DataStays mid after → DataStays before after
+stay_on before mid after first second = record { left = second.left ∙ first.left; asked = second.asked ∙ first.asked }

@@ -2,7 +2,10 @@ pub mod Piles
 pub mod Joined
 pub mod Hoppers
 pub mod Ahead
-pub mod CardsRead
+pub mod ReadOn
+pub mod ReadSame
+pub mod CardsTallied
+pub mod CardsStored
 pub mod CardsPunched
 pub mod Punching
 pub mod CardTexts

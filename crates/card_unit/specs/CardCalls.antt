@@ -1,17 +1,19 @@
 -- What the reading of a card does to core, panel and hopper, and what the punching does outside.
-use Rattle.std.specs.Prelude.{ℕ, Bool, true, List, if◌then◌else◌, Option, Some, None, Result, Ok, Err, ⊤}
+use Rattle.std.specs.Prelude.{ℕ, ◌≡◌, Bool, true, List, [], ◌∷◌, ◌++◌, if◌then◌else◌, Option, Some, None, Result, Ok, Err, ⊤}
 use Rattle.indicators.specs.declared.Panel.{Panel}
 use Rattle.indicators.specs.Panel.{set}
 use Rattle.outside_io.specs.declared.host.Unit.TheVariants as units
-use Rattle.outside_io.specs.World.{Seen}
+use Rattle.outside_io.specs.World.{World, Seen}
 use Rattle.addr_indirect.specs.declared.Stop.{Stop}
 use Rattle.traces.specs.Trace.{Trace}
 use Rattle.traces.specs.Break.{Break, Stops, Empty, Jam}
 use Rattle.card_code.specs.{Entry, Intake, Output, Wrote, WroteFirst, WrotePairs, WroteFirstPairs}
+use Rattle.read_checks.specs.declared.ReadAs.{ReadAs}
+use Rattle.read_checks.specs.Readings.{Reading, bad_from, with_bad}
 use Rattle.card_unit.specs.declared.hopper.Hopper.{Hopper}
 use Rattle.card_unit.specs.declared.reader.CardIo.{CardIo}
 use Rattle.card_unit.specs.declared.reader.CardIo.TheVariants as io
-use Rattle.card_unit.specs.Hopper.{hopper_feed}
+use Rattle.card_unit.specs.Hopper.{hopper_feed, line_read, Start, HasReadBy}
 use Rattle.card_code.specs.Feed.{Station, ReadsIn}
 use Rattle.indicators.specs.declared.codes.TheConstants.{LAST_CARD}
 
@@ -30,6 +32,33 @@ reading_ending io.Failed = None
 -- what a reading with the trace t does
 abbrev pub Reads : (List Entry → Trace Intake ⊤ Break) → Station Hopper → Station Hopper → CardIo → Type 0
 Reads t old new answer = ReadsIn hopper_feed t old new (reading_ending answer)
+
+-- a card was read so, and there was room in core for so many of its characters: one reading more
+abbrev pub HasReadOne : ReadAs → ℕ → Start → List Reading → Hopper → World → Type 0
+HasReadOne how room start readings h w =
+    (r : Reading) × (r.how ≡ how) × (r.room ≡ room) × HasReadBy start (readings ++ r ∷ []) h w
+
+-- where none was read, none more
+abbrev pub HasReadAsSaid : ReadAs → ℕ → Start → List Reading → Hopper → World → CardIo → Type 0
+HasReadAsSaid how room start readings h w io.Done = HasReadOne how room start readings h w
+HasReadAsSaid how room start readings h w (io.Stop why) = HasReadOne how room start readings h w
+HasReadAsSaid how room start readings h w io.Empty = HasReadBy start readings h w
+HasReadAsSaid how room start readings h w (io.Jam u n) = HasReadBy start readings h w
+HasReadAsSaid how room start readings h w io.Failed = HasReadBy start readings h w
+
+-- what a reading adds to what the hopper has read
+abbrev pub ReadsAsSaid : ReadAs → ℕ → Hopper → Hopper → Seen → Seen → CardIo → Type 0
+ReadsAsSaid how room old new before after answer = (start : Start) (readings : List Reading)
+    → HasReadBy start readings old before.world → HasReadAsSaid how room start readings new after.world answer
+
+-- a hopper that has taken up the bad ones of some characters of the card that was read last
+abbrev pub with_taken_up : ReadAs → List ℕ → Hopper → Hopper
+with_taken_up how stored h = record h { bad = with_bad (bad_from h.from (line_read h) how 1 stored) h.bad }
+
+-- how a reading ends of whose card so much was stored
+abbrev pub stored_ending : Result ⊤ Stop → CardIo
+stored_ending (Ok done) = io.Done
+stored_ending (Err why) = io.Stop why
 
 -- what the punching of these bytes does
 abbrev pub Punches : Trace ℕ ⊤ Stop → Seen → Seen → CardIo → Type 0

@@ -1,5 +1,6 @@
 -- What a hopper means: the entry at its front, its pile, and then the lines of Data. And what its calls do.
-use Rattle.std.specs.Prelude.{ℕ, ◌≡◌, ◌≤◌, ◌⊎◌, Bool, true, false, ⊤, List, [], ◌∷◌, ◌++◌, length, Option, Some, None, option_map, option_and_then, IfSome, Result, Ok, Err, map}
+use Rattle.std.specs.Prelude.{ℕ, ◌≡◌, ◌≤◌, ◌+◌, ◌-◌, ◌⊎◌, Bool, true, false, ⊤, List, [], ◌∷◌, ◌++◌, length, Option, Some, None, option_map, option_and_then, IfSome, Result, Ok, Err, map}
+use Rattle.outside_io.specs.declared.host.Unit as unit
 use Rattle.outside_io.specs.declared.host.Unit.TheVariants as units
 use Rattle.outside_io.specs.World.{World, Seen}
 use Rattle.traces.specs.Break.{Break, Empty, Jam}
@@ -10,6 +11,11 @@ use Rattle.card_code.specs.declared.lines.More.TheVariants as more
 use Rattle.card_code.specs.{Entry, Text, Long, Taken, hopper_of, behind, is_empty, next_card, text_as_card, entries_left, HasNone}
 use Rattle.card_code.specs.Feed.{Feed, Stays, Lacks, Fails, TakesNext}
 use Rattle.card_code.specs.Reader as lines
+use Rattle.read_checks.specs.declared.ReadAs.TheVariants as how
+use Rattle.read_checks.specs.declared.Tally.{Tally}
+use Rattle.read_checks.specs.Readings.{Reading, AreNumbered, no_lines, lines_after, all_bad, tally_of, entry_read}
+use Rattle.card_unit.specs.declared.counts.CardsRead.{CardsRead}
+use Rattle.card_unit.specs.Counts.{line_of, cards_of}
 use Rattle.card_unit.specs.declared.hopper.Hopper.{Hopper}
 use Rattle.card_unit.specs.declared.hopper.CardAnswer.{CardAnswer}
 use Rattle.card_unit.specs.declared.hopper.CardAnswer.TheVariants as answer
@@ -198,3 +204,92 @@ KeepsAhead old new before after = IsOneAhead old before.world → IsOneAhead new
 abbrev pub IsAheadBehind : Hopper → World → More → Type 0
 IsAheadBehind h w more.Failed = IsOneAhead h w
 IsAheadBehind h w got = IsOneAhead (record h { front = None }) w
+
+-- What was read.
+
+-- the cards that were read, of the pile and of Data
+abbrev pub cards_read : Hopper → CardsRead
+cards_read h = h.read
+
+-- the bad characters of these
+abbrev pub bad_cards : Hopper → Tally
+bad_cards h = h.bad
+
+-- the number in its unit of the card that was read last
+abbrev pub line_read : Hopper → ℕ
+line_read h = line_of h.from h.read
+
+-- what stood in a hopper as it was made, where that was told: the entries of its pile, and all of its entries
+pub record Start : Type 0 where
+  pub pile : List Entry
+  pub all : List Entry
+
+-- the unit of a card: Deck, in whose place a list of cards stands, or Data
+abbrev pub IsOfCards : unit.Unit → Type 0
+IsOfCards u = (u ≡ units.Deck) ⊎ (u ≡ units.Data)
+
+-- of so many cards in a pile so many are still to be read: those that are left, and one more where one of them stands at the front; where one
+-- of Data stands there, none
+abbrev pub AreToCome : Option Front → unit.Unit → ℕ → ℕ → Type 0
+AreToCome None u left to_come = left ≡ to_come
+AreToCome (Some front) units.Data left to_come = (left ≡ 0) × (to_come ≡ 0)
+AreToCome (Some front) u left to_come = left + 1 ≡ to_come
+
+-- WHAT A HOPPER HAS READ since it was made, by the readings of its cards in their order: they are numbered as the cards of their units, and
+-- the tally is of the bad characters that were stored of them. Where the cards that it had were told, those that were read and those that are
+-- left are all of them. No card was asked for before its turn.
+pub record HasReadBy (start : Start) (readings : List Reading) (h : Hopper) (w : World) : Type 0 where
+  pub ahead : IsOneAhead h w
+  pub numbered : AreNumbered readings no_lines
+  pub of_deck : h.read.of_deck ≡ lines_after readings no_lines units.Deck
+  pub of_data : h.read.of_data ≡ lines_after readings no_lines units.Data
+  pub tallied : h.bad ≡ tally_of (all_bad readings)
+  pub all : IfSome (hopper_left h w) (λ left. start.all ≡ map entry_read readings ++ left)
+  pub count : IfSome (hopper_left h w) (λ left. h.read ≡ cards_of (length start.pile) (length readings))
+  -- the unit of the card that came to the front last, and how many cards of the pile are still to be read
+  pub from : IsOfCards h.from
+  pub to_come : IfSome (pile_left h.pile w) (λ left. AreToCome h.front h.from (length left) (length start.pile - length readings))
+
+-- it has read some cards
+pub record HasRead (start : Start) (h : Hopper) (w : World) : Type 0 where
+  pub readings : List Reading
+  pub by : HasReadBy start readings h w
+
+-- it has read the same cards still
+abbrev pub ReadsNone : Hopper → Hopper → Seen → Seen → Type 0
+ReadsNone old new before after =
+    (start : Start) (readings : List Reading) → HasReadBy start readings old before.world → HasReadBy start readings new after.world
+
+-- the reading of the card that was taken last, of which nothing was stored yet
+abbrev pub reading_of : Hopper → List ℕ → Reading
+reading_of h text = record { unit = h.from; line = line_read h; text = text; how = how.Digit; room = 0 }
+
+-- one card more was read; its text is that of the card once it's filled with blanks
+pub record ReadsOneMore (start : Start) (readings : List Reading) (h : Hopper) (w : World) (card : List ℕ) : Type 0 where
+  pub text : List ℕ
+  pub filled : card ≡ text_as_card text
+  pub by : HasReadBy start (readings ++ reading_of h text ∷ []) h w
+
+-- what the taking of a card adds to what was read: the card that was taken
+abbrev pub AddsCard : Start → List Reading → Hopper → World → CardAnswer → Type 0
+AddsCard start readings h w (answer.Card card last) = ReadsOneMore start readings h w card.0
+AddsCard start readings h w got = HasReadBy start readings h w
+
+abbrev pub ReadsNext : Hopper → Hopper → Seen → Seen → CardAnswer → Type 0
+ReadsNext old new before after got =
+    (start : Start) (readings : List Reading) → HasReadBy start readings old before.world → AddsCard start readings new after.world got
+
+-- what was read, and of which unit the card at the front is, stay as they are
+pub record HasSameRead (old new : Hopper) : Type 0 where
+  pub from : new.from ≡ old.from
+  pub read : new.read ≡ old.read
+  pub bad : new.bad ≡ old.bad
+
+-- it goes on with that
+abbrev pub ReadsOn : Hopper → Hopper → Seen → Seen → Type 0
+ReadsOn old new before after = (start : Start) → HasRead start old before.world → HasRead start new after.world
+
+-- it has read nothing yet
+abbrev pub Begins : Hopper → Type 0
+Begins h = (start : Start) (w : World) → IfSome (deck_left h w) (λ left. start.pile ≡ left) → IfSome (hopper_left h w) (λ left. start.all ≡ left)
+    → HasRead start h w

@@ -1,3 +1,4 @@
+pub mod Counts
 pub mod Front
 pub mod Pile
 pub mod Hopper

@@ -1,15 +1,18 @@
 // The cards and lines that are to be read.
-ghost use Rattle.std.specs.Prelude.{◌≡◌, map, Some, None};
+ghost use Rattle.std.specs.Prelude.{◌≡◌, ◌≤◌, length, map, Some, None};
 ghost use Rattle.outside_io.specs.declared.host.Unit.TheVariants as units;
 ghost use Rattle.outside_io.specs.World.{World};
 ghost use Rattle.card_code.specs.{Text, unit_entries, unit_of};
 ghost use Rattle.card_unit.specs.declared.front.Front.{Front};
 ghost use Rattle.card_unit.specs.Pile.{pile_unit};
+ghost use Rattle.read_checks.specs.Readings.{bad_from, with_bad};
 
+use crate::counts::{CardsRead, NONE_READ};
 use crate::front::Front;
 use crate::pile::{Pile, PileAnswer};
 use card_code::{Card, LineAnswer, Lines, More};
 use outside_io::{Host, Unit};
+use read_checks::{ReadAs, Tally};
 
 /// What comes of taking a card.
 ///
@@ -49,18 +52,25 @@ enum Held {
 ///
 /// They are those of a pile, which is a list of cards or the lines of the unit Deck, and then the lines of the unit Data. A line
 /// stands for the card that it fills with blanks; one of over 80 bytes is a jam, which no card behind it can pass.
-/// Source: 1622 manual, reader hopper; that lines stand for cards is this project's own.
+///
+/// A hopper counts the cards that were read of it, and tallies the bad characters that were stored of them, from its beginning on. The
+/// cards that were read and those that are left are all that it was given, in their order.
+/// Source: 1622 manual, reader hopper; that lines stand for cards, the counts and the tally are this project's own.
 #[derive(Drop)]
 pub struct Hopper {
     front: Option<Front>,
+    // The unit of the card that came to the front last: Deck, in whose place a list of cards stands, or Data.
+    from: Unit,
     pile: Pile,
     data: Lines,
+    read: CardsRead,
+    bad: Tally,
     ghost pile_is: { pile_unit pile ≡ units.Deck },
     ghost data_is: { unit_of «data» ≡ units.Data },
 }
 
 impl Hopper {
-    ghost use Rattle.card_unit.specs.Hopper.{hopper_left, own_cards, cards_and_data, deck_and_data, Holds, HasBehind, NextCard, deck_left, card_texts, LeavesData, NextOfDeck, HoldsOfDeck, LooksBehind, IsOneAhead, KeepsAhead, IsAheadBehind};
+    ghost use Rattle.card_unit.specs.Hopper.{Begins, ReadsOn, cards_read, bad_cards, line_read, hopper_left, own_cards, cards_and_data, deck_and_data, Holds, HasBehind, NextCard, deck_left, card_texts, LeavesData, NextOfDeck, ReadsNext, ReadsNone, HasSameRead, HoldsOfDeck, LooksBehind, IsOneAhead, KeepsAhead, IsAheadBehind};
 
     /// A hopper that holds these cards, and behind them those of the unit Data.
     ///
@@ -70,12 +80,15 @@ impl Hopper {
             hopper_left result w ≡ cards_and_data (card_texts cards.items) w }
         ensures deck { (w : World) → deck_left result w ≡ Some (map Text (card_texts cards.items)) }
         ensures own { own_cards result ≡ Some (card_texts cards.items) }
-        ensures ahead { (w : World) → IsOneAhead result w }
+        ensures begins { Begins result }
     {
         Hopper {
             front: None,
+            from: Unit::Deck,
             pile: Pile::Cards { cards, gone: 0 },
             data: Lines::new(Unit::Data),
+            read: NONE_READ,
+            bad: Tally::new(),
         }
     }
 
@@ -86,12 +99,15 @@ impl Hopper {
         ensures left { (w : World) → hopper_left result w ≡ deck_and_data w }
         ensures deck { (w : World) → deck_left result w ≡ unit_entries units.Deck w }
         ensures own { own_cards result ≡ None }
-        ensures ahead { (w : World) → IsOneAhead result w }
+        ensures begins { Begins result }
     {
         Hopper {
             front: None,
+            from: Unit::Deck,
             pile: Pile::Deck(Lines::new(Unit::Deck)),
             data: Lines::new(Unit::Data),
+            read: NONE_READ,
+            bad: Tally::new(),
         }
     }
 
@@ -106,13 +122,18 @@ impl Hopper {
     /// No card is asked for before its turn. That holds of all that was asked since the hopper was made, and not of this call alone:
     /// Deck and Data were asked for no more than the cards that were taken and the next one need, and for one look behind each card
     /// that was taken at whether a byte is left; and no such look was made at Data while the pile had another card.
-    /// Source: 1622 manual, reader hopper and last card; that 09 looks for a byte behind the card is this project's own.
+    ///
+    /// A card that is taken counts as one that was read, of the list of cards, of Deck or of Data, and its number there is one more than
+    /// that of the card before it. Nothing of it is tallied yet. Where none is taken, the counts stay.
+    /// Source: 1622 manual, reader hopper and last card; that 09 looks for a byte behind the card, and the counts, are this
+    /// project's own.
     pub fn next_card<H: Host>(&mut self, host: &mut H) -> CardAnswer
         ensures card { NextCard self.old self.new (H.seen host.old) (H.seen host.new) result }
         ensures deck { NextOfDeck self.old self.new (H.seen host.old) (H.seen host.new) result }
         ensures alone { LeavesData 2 self.old (H.seen host.old) (H.seen host.new) }
         ensures own { own_cards self.new ≡ own_cards self.old }
-        ensures ahead { KeepsAhead self.old self.new (H.seen host.old) (H.seen host.new) }
+        ensures reads { ReadsNext self.old self.new (H.seen host.old) (H.seen host.new) result }
+        ensures reads_on { ReadsOn self.old self.new (H.seen host.old) (H.seen host.new) }
     {
         let front = match self.hold(host) {
             Held::Yes(front) => front,
@@ -126,10 +147,44 @@ impl Hopper {
             More::Failed => return CardAnswer::Failed,
         };
         self.front = None;
+        self.read = self.read.with_one(self.from);
         CardAnswer::Card {
             card: front.to_card(),
             last,
         }
+    }
+
+    /// How many cards were read since the hopper was made, those of the pile and those of Data.
+    ///
+    /// The cards of the pile are read first. A card counts as read as soon as it is taken, also where the instruction that reads it stops.
+    /// Source: this project's own.
+    pub fn cards_read(&self) -> CardsRead
+        ensures { result ≡ cards_read self.now }
+    {
+        self.read
+    }
+
+    /// The bad characters of the cards that were read: the first of them, and how many there were.
+    ///
+    /// They are those that were stored as zeros, for which the read check 06 went on. A character for which there was no room in core is
+    /// not among them. A character may be bad as a digit and good as a pair, so each counts by how its card was read.
+    /// Source: this project's own.
+    pub fn bad_characters(&self) -> Tally
+        ensures { result ≡ bad_cards self.now }
+    {
+        self.bad
+    }
+
+    // Takes up the bad ones among the characters that were stored of the card that was read last.
+    pub(crate) fn take_up(&mut self, how: ReadAs, stored: &[u8])
+        requires { length stored.now ≤ 80 }
+        ensures { self.new ≡ record self.old { bad = with_bad (bad_from self.old.from (line_read self.old) how 1 stored.now) self.old.bad } }
+    {
+        let line = match self.from {
+            Unit::Data => self.read.of_data,
+            _ => self.read.of_deck,
+        };
+        self.bad.take_up(self.from, line, how, stored);
     }
 
     // Holds the next card, or the text that stands for it, at the front, where it stays until the card is taken.
@@ -139,6 +194,7 @@ impl Hopper {
         ensures alone { LeavesData 1 self.old (H.seen host.old) (H.seen host.new) }
         ensures own { own_cards self.new ≡ own_cards self.old }
         ensures ahead { KeepsAhead self.old self.new (H.seen host.old) (H.seen host.new) }
+        ensures reads { ReadsNone self.old self.new (H.seen host.old) (H.seen host.new) }
     {
         match self.front {
             Some(front) => return Held::Yes(front),
@@ -146,6 +202,7 @@ impl Hopper {
         }
         match self.pile.next_front(host) {
             PileAnswer::Next(front) => {
+                self.from = Unit::Deck;
                 self.front = Some(front);
                 return Held::Yes(front);
             }
@@ -159,6 +216,7 @@ impl Hopper {
         match self.data.next_line(host) {
             LineAnswer::Line(line) => {
                 let front = Front::Line(line);
+                self.from = Unit::Data;
                 self.front = Some(front);
                 Held::Yes(front)
             }
@@ -179,6 +237,7 @@ impl Hopper {
         ensures ahead { (front : Front) → self.old.front ≡ Some front
             → IsOneAhead self.old (H.seen host.old).world
             → IsAheadBehind self.new (H.seen host.new).world result }
+        ensures same { HasSameRead self.old self.new }
     {
         match self.pile.more(host) {
             More::Yes => return More::Yes,

@@ -1,12 +1,13 @@
 // Cards that are read into core.
-ghost use Rattle.std.specs.Prelude.{◌≡◌, ◌<◌, ◌+◌, ◌*◌, ◌%◌, ℕ};
+ghost use Rattle.std.specs.Prelude.{◌≡◌, ◌<◌, ◌≤◌, ◌+◌, ◌-◌, ◌*◌, ◌/◌, ◌%◌, ℕ, [], length, take, IfOk, false};
 ghost use Rattle.addr_indirect.specs.declared.Stop.{Stop};
 ghost use Rattle.card_unit.specs.declared.reader.CardIo.TheVariants as io;
 ghost use Rattle.digit_core.specs.Size.{size};
-ghost use Rattle.card_unit.specs.CardCalls.{Reads, with_last};
+ghost use Rattle.card_unit.specs.CardCalls.{Reads, ReadsAsSaid, stored_ending, with_last, with_taken_up};
 ghost use Rattle.card_code.specs.Feed.{station};
-ghost use Rattle.card_unit.specs.Hopper.{LeavesData, own_cards, KeepsAhead};
+ghost use Rattle.card_unit.specs.Hopper.{LeavesData, own_cards, ReadsOn, line_read};
 ghost use Rattle.card_unit.specs.Reader.{read_numeric, read_alphameric};
+ghost use Rattle.read_checks.specs.Readings.{bad_from};
 
 use crate::hopper::{CardAnswer, Hopper};
 use addr_indirect::Stop;
@@ -14,6 +15,7 @@ use card_code::{store_digits, store_pairs};
 use digit_core::Core;
 use indicators::{LAST_CARD, Panel};
 use outside_io::{Host, Unit};
+use read_checks::ReadAs;
 
 /// How an instruction on the card unit ends.
 ///
@@ -44,8 +46,11 @@ pub enum CardIo {
 /// read check 06 goes on as it is stored. `Empty` and `Jam` come as [`Hopper::next_card`] gives them. They and `Failed` leave core,
 /// panel and hopper as they were.
 ///
+/// The card counts as one that was read, and the bad ones among the characters that were stored of it are tallied, also where the
+/// instruction stops: a character for which there was no room in core is not among them. See [`Hopper::bad_characters`].
+///
 /// Stops: 2 where a digit's position is past the end of core; the digits before it stay, and the card is gone.
-/// Source: 1622 manual, read numerically; the order of its parts is this project's own.
+/// Source: 1622 manual, read numerically; the order of its parts, and the tally, are this project's own.
 pub fn read_num<const M: u32, H: Host>(
     core: &mut Core<M>,
     p: u32,
@@ -59,16 +64,16 @@ pub fn read_num<const M: u32, H: Host>(
         Reads (read_numeric (size M) p) before after result }
     ensures alone { LeavesData 2 hopper.old (H.seen host.old) (H.seen host.new) }
     ensures own { own_cards hopper.new ≡ own_cards hopper.old }
-    ensures ahead { KeepsAhead hopper.old hopper.new (H.seen host.old) (H.seen host.new) }
+    ensures reads_on { ReadsOn hopper.old hopper.new (H.seen host.old) (H.seen host.new) }
+    ensures as_said { ReadsAsSaid ReadAs.Digit (size M - p) hopper.old hopper.new (H.seen host.old) (H.seen host.new) result }
     ensures room { (why : Stop) → result ≡ io.Stop why → size M < p + 80 }
 {
     match hopper.next_card(host) {
         CardAnswer::Card { card, last } => {
             turn_on_last(panel, last);
-            match store_digits(core, p, &card.0, panel) {
-                Ok(()) => CardIo::Done,
-                Err(stop) => CardIo::Stop(stop),
-            }
+            let room = (core.size() - p) as usize;
+            let stored = store_digits(core, p, &card.0, panel);
+            end(hopper, ReadAs::Digit, &card.0, room, stored, panel)
         }
         CardAnswer::Empty => CardIo::Empty,
         CardAnswer::Jam { unit, line } => CardIo::Jam { unit, line },
@@ -83,8 +88,10 @@ pub fn read_num<const M: u32, H: Host>(
 /// bad character is stored as 00, and the read check 06 goes on as its first digit is stored. `Empty` and `Jam` come as
 /// [`Hopper::next_card`] gives them. They and `Failed` leave core, panel and hopper as they were.
 ///
+/// The card and its bad characters are counted as with [`read_num`]; a character is stored where there is room for both of its digits.
+///
 /// Stops: 2 where a digit's position is past the end of core; the digits before it stay, and the card is gone.
-/// Source: 1622 manual, read alphamerically; the order of its parts is this project's own.
+/// Source: 1622 manual, read alphamerically; the order of its parts, and the tally, are this project's own.
 pub fn read_alpha<const M: u32, H: Host>(
     core: &mut Core<M>,
     p: u32,
@@ -99,15 +106,15 @@ pub fn read_alpha<const M: u32, H: Host>(
         Reads (read_alphameric (size M) p) before after result }
     ensures alone { LeavesData 2 hopper.old (H.seen host.old) (H.seen host.new) }
     ensures own { own_cards hopper.new ≡ own_cards hopper.old }
-    ensures ahead { KeepsAhead hopper.old hopper.new (H.seen host.old) (H.seen host.new) }
+    ensures reads_on { ReadsOn hopper.old hopper.new (H.seen host.old) (H.seen host.new) }
+    ensures as_said { ReadsAsSaid ReadAs.Pair ((size M - (p - 1)) / 2) hopper.old hopper.new (H.seen host.old) (H.seen host.new) result }
 {
     match hopper.next_card(host) {
         CardAnswer::Card { card, last } => {
             turn_on_last(panel, last);
-            match store_pairs(core, p - 1, &card.0, panel) {
-                Ok(()) => CardIo::Done,
-                Err(stop) => CardIo::Stop(stop),
-            }
+            let room = ((core.size() - (p - 1)) / 2) as usize;
+            let stored = store_pairs(core, p - 1, &card.0, panel);
+            end(hopper, ReadAs::Pair, &card.0, room, stored, panel)
         }
         CardAnswer::Empty => CardIo::Empty,
         CardAnswer::Jam { unit, line } => CardIo::Jam { unit, line },
@@ -122,4 +129,43 @@ fn turn_on_last(panel: &mut Panel, last: bool)
     if last {
         panel.set(LAST_CARD, true);
     }
+}
+
+// How a reading ends of whose card so much was stored. The bad ones among its first characters, as many as core had room for, are
+// taken up; while 06 is off behind a card that was stored whole, there are none.
+fn end(
+    hopper: &mut Hopper,
+    how: ReadAs,
+    card: &[u8],
+    room: usize,
+    stored: Result<(), Stop>,
+    panel: &Panel,
+) -> CardIo
+    requires short { length card.now ≤ 80 }
+    requires good { IfOk stored (λ _. panel.now.read_check ≡ false
+        → bad_from hopper.old.from (line_read hopper.old) how 1 (take room card.now) ≡ []) }
+    ensures tallied { hopper.new ≡ with_taken_up how (take room card.now) hopper.old }
+    ensures answer { result ≡ stored_ending stored }
+{
+    match stored {
+        Ok(()) => {
+            if panel.read_check {
+                take_up_first(hopper, how, card, room);
+            }
+            CardIo::Done
+        }
+        Err(stop) => {
+            take_up_first(hopper, how, card, room);
+            CardIo::Stop(stop)
+        }
+    }
+}
+
+// Takes up the bad ones among the first characters of the card that was read last: as many as core had room for.
+fn take_up_first(hopper: &mut Hopper, how: ReadAs, card: &[u8], room: usize)
+    requires { length card.now ≤ 80 }
+    ensures { hopper.new ≡ with_taken_up how (take room card.now) hopper.old }
+{
+    let stored = &card[..card.len().min(room)];
+    hopper.take_up(how, stored);
 }

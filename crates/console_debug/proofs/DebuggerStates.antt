@@ -13,9 +13,9 @@ use Rattle.outside_io.proofs.Frames.{keeps_all, keeps_on, keeps_added}
 use Rattle.outside_io.proofs.EventLemmas.{did_on, did_text, first_text}
 use Rattle.card_code.specs.Entries.{Entry}
 use Rattle.card_unit.specs.Hopper.{hopper_left}
-use Rattle.card_unit.proofs.Ahead.{ahead_same}
+use Rattle.card_unit.proofs.ReadSame.{read_same}
 use Rattle.typewriter.specs.Keys.{keys_left}
-use Rattle.typewriter.proofs.Keyboards.{turn_same}
+use Rattle.typewriter.proofs.ReadSame.{read_same as keys_same_read}
 use Rattle.cpu_step.specs.declared.machine.Machine.{Machine}
 use Rattle.cpu_step.specs.State.{State}
 use Rattle.cpu_step.specs.Machine.{Frames, is_read, is_written, state_with, over_all}
@@ -37,7 +37,7 @@ use Rattle.console_debug.proofs.Onward.{Onward, MakesTurns, next_turn}
 -- What stays.
 
 pub attends_same : (m : ℕ) (machine : Machine m) (seen : Seen) → Attends m machine machine seen seen
-attends_same m machine seen = record { later = omega arith; keeps = keeps_all is_read is_said true seen.world; told = refl; told_keys = refl; told_sectors = refl; own = refl; ahead = λ one_ahead. one_ahead; turn = λ in_turn. in_turn }
+attends_same m machine seen = record { later = omega arith; keeps = keeps_all is_read is_said true seen.world; told = refl; told_keys = refl; told_sectors = refl; own = refl; cards = λ start read. read; lines = λ start read. read }
 
 pub attends_both : (m : ℕ) (old mid new : Machine m) (before between after : Seen) → Attends m old mid before between → Attends m mid new between after → Attends m old new before after
 attends_both m old mid new before between after first second = record {
@@ -47,8 +47,8 @@ attends_both m old mid new before between after first second = record {
   told_keys = second.told_keys ∙ first.told_keys;
   told_sectors = second.told_sectors ∙ first.told_sectors;
   own = second.own ∙ first.own;
-  ahead = λ one_ahead. second.ahead (first.ahead one_ahead);
-  turn = λ in_turn. second.turn (first.turn in_turn);
+  cards = λ start read. second.cards start (first.cards start read);
+  lines = λ start read. second.lines start (first.lines start read);
 }
 
 none_of : (a b : Bool) → (a || b) ≡ false → a ≡ false
@@ -71,8 +71,8 @@ attends_frames m old new before after frames = record {
   told_keys = frames.told_keys;
   told_sectors = frames.told_sectors;
   own = frames.own;
-  ahead = frames.ahead;
-  turn = frames.turn;
+  cards = frames.cards;
+  lines = frames.lines;
 }
 
 right_true : (a b : Bool) → b ≡ true → (a || b) ≡ true
@@ -93,8 +93,8 @@ attends_said m machine before after text goes = record {
   told_keys = ap (λ (w : World). is_some (keys_left machine.keys w)) goes.world;
   told_sectors = ap (λ (w : World). is_some w.sectors) goes.world;
   own = refl;
-  ahead = ahead_same machine.hopper before.world after.world (ap (λ (w : World). w.left units.Deck) goes.world) (ap (λ (w : World). w.asked units.Deck) goes.world) (ap (λ (w : World). w.asked units.Data) goes.world);
-  turn = turn_same machine.keys before.world after.world (ap (λ (w : World). w.asked units.Keys) goes.world);
+  cards = read_same machine.hopper before.world after.world (ap (λ (w : World). w.left units.Deck) goes.world) (ap (λ (w : World). w.left units.Data) goes.world) (ap (λ (w : World). w.asked units.Deck) goes.world) (ap (λ (w : World). w.asked units.Data) goes.world);
+  lines = keys_same_read machine.keys before.world after.world (ap (λ (w : World). w.left units.Keys) goes.world) (ap (λ (w : World). w.asked units.Keys) goes.world);
 }
 
 place_said : (m : ℕ) (x : RunState m) (text : List ℕ) (w : World) → place_of m x (world_after_put units.Report text w) ≡ place_of m x w

@@ -83,7 +83,7 @@ same_option None = refl
 same_option (Some k) = ap Some (omega arith)
 
 pub frames_same : (m : ℕ) (machine : Machine m) (seen : Seen) → Frames m machine machine seen seen
-frames_same m machine seen = record { later = omega arith; keeps = keeps_all is_read is_written true seen.world; told = refl; told_keys = refl; told_sectors = refl; own = refl; ahead = λ one_ahead. one_ahead; turn = λ in_turn. in_turn }
+frames_same m machine seen = record { later = omega arith; keeps = keeps_all is_read is_written true seen.world; told = refl; told_keys = refl; told_sectors = refl; own = refl; cards = λ start read. read; lines = λ start read. read }
 
 pub sets_out : (m limit : ℕ) (x : CursorState m) → IsFit m limit x → Heading m limit x x
 sets_out m limit x fit = record {

@@ -9,9 +9,9 @@ use Rattle.outside_io.specs.World.{World, Seen}
 use Rattle.outside_io.proofs.Frames.{keeps_all}
 use Rattle.card_code.specs.Entries.{Entry}
 use Rattle.card_unit.specs.Hopper.{hopper_left, own_cards}
-use Rattle.card_unit.proofs.Ahead.{ahead_kept}
+use Rattle.card_unit.proofs.ReadSame.{reads_kept}
 use Rattle.typewriter.specs.Keys.{keys_left}
-use Rattle.typewriter.proofs.Keyboards.{turn_kept}
+use Rattle.typewriter.proofs.ReadSame.{reads_kept as keys_kept}
 use Rattle.cpu_step.specs.declared.machine.Machine.{Machine}
 use Rattle.cpu_step.specs.State.{State}
 use Rattle.cpu_step.specs.Machine.{is_faulted, is_read, is_written, Frames, state_with, over_all}
@@ -113,8 +113,8 @@ module _ (m limit : ℕ) (old : CursorState m) (machine : Machine m) (steps behi
     told_keys = ap (λ (x : Machine m). is_some (keys_left x.keys old.seen.world)) gone.machine;
     told_sectors = refl;
     own = ap (λ (x : Machine m). own_cards x.hopper) gone.machine;
-    ahead = ahead_kept old.at.machine.hopper machine.hopper old.seen old.seen (ap (λ (x : Machine m). x.hopper) gone.machine) refl refl refl;
-    turn = turn_kept old.at.machine.keys machine.keys old.seen old.seen (ap (λ (x : Machine m). x.keys) gone.machine) refl;
+    cards = reads_kept old.at.machine.hopper machine.hopper old.seen old.seen (ap (λ (x : Machine m). x.hopper) gone.machine) refl refl refl refl;
+    lines = keys_kept old.at.machine.keys machine.keys old.seen old.seen (ap (λ (x : Machine m). x.keys) gone.machine) refl refl;
   }
 
   module _ (c : Course) (n f : ℕ) (within : c.limit ≡ limit) (on_it : IsOn m c n f old) where
@@ -470,8 +470,8 @@ module _ (m limit j : ℕ) (old : CursorState m) (machine : Machine m) (steps : 
     told_keys = ap (λ (x : Machine m). is_some (keys_left x.keys old.seen.world)) went.machine;
     told_sectors = refl;
     own = ap (λ (x : Machine m). own_cards x.hopper) went.machine;
-    ahead = ahead_kept old.at.machine.hopper machine.hopper old.seen old.seen (ap (λ (x : Machine m). x.hopper) went.machine) refl refl refl;
-    turn = turn_kept old.at.machine.keys machine.keys old.seen old.seen (ap (λ (x : Machine m). x.keys) went.machine) refl;
+    cards = reads_kept old.at.machine.hopper machine.hopper old.seen old.seen (ap (λ (x : Machine m). x.hopper) went.machine) refl refl refl refl;
+    lines = keys_kept old.at.machine.keys machine.keys old.seen old.seen (ap (λ (x : Machine m). x.keys) went.machine) refl refl;
   }
 
   module _ (c : Course) (n f : ℕ) (on_it : IsOn m c n f old) where

@@ -6,8 +6,9 @@ use Rattle.outside_io.specs.declared.host.Unit.TheVariants as units
 use Rattle.outside_io.specs.World.{World, Seen, Rose, same_unit}
 use Rattle.outside_io.specs.Frame.{Keeps}
 use Rattle.outside_io.specs.Events.{Event, cards_in, lines_in, IsFirstPart, DidAll}
-use Rattle.card_unit.specs.Hopper.{hopper_left, own_cards, KeepsAhead}
-use Rattle.typewriter.specs.Keys.{keys_left, KeepsTurn}
+use Rattle.card_unit.specs.Hopper.{hopper_left, own_cards, ReadsOn}
+use Rattle.typewriter.specs.Keys.{keys_left}
+use Rattle.typewriter.specs.Keys as keyboard
 use Rattle.cpu_step.specs.declared.machine.Machine.{Machine}
 use Rattle.cpu_step.specs.Machine.{is_faulted, is_read, is_written}
 use Rattle.operator_script.specs.declared.script.Script.{Script}
@@ -25,7 +26,7 @@ abbrev pub is_said : unit.Unit → Bool
 is_said u = is_written u || same_unit units.Report u
 
 -- faults don't fall, what is told stays told, sectors may have been written, and all else of the world stays; no card was put into the
--- reader's pile; and no card and no line of Keys was asked for before its turn, if none was before
+-- reader's pile; and hopper and keyboard go on with what they have read
 pub record Attends (m : ℕ) (old new : Machine m) (before after : Seen) : Type 0 where
   pub later : before.faults ≤ after.faults
   pub keeps : Keeps is_read is_said true before.world after.world
@@ -33,8 +34,8 @@ pub record Attends (m : ℕ) (old new : Machine m) (before after : Seen) : Type 
   pub told_keys : is_some (keys_left new.keys after.world) ≡ is_some (keys_left old.keys before.world)
   pub told_sectors : is_some after.world.sectors ≡ is_some before.world.sectors
   pub own : own_cards new.hopper ≡ own_cards old.hopper
-  pub ahead : KeepsAhead old.hopper new.hopper before after
-  pub turn : KeepsTurn old.keys new.keys before after
+  pub cards : ReadsOn old.hopper new.hopper before after
+  pub lines : keyboard.ReadsOn old.keys new.keys before after
 
 -- a moment stands where the session does, its breakpoints are set, and all that it does outside was done; the cards and the lines of the
 -- keyboard that are left are those of the first place without the ones that were taken

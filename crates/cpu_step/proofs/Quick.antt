@@ -70,7 +70,7 @@ module _ (m : ℕ) (t : State → Trace Effect Next Break) (old new : Machine m)
   shows_old w s h = record { is = h.is; hopper = h.hopper; keys = h.keys; sectors = h.sectors }
 
   frames_old : Frames m with_memo new before later → Frames m old new before later
-  frames_old f = record { later = f.later; keeps = f.keeps; told = f.told; told_keys = f.told_keys; told_sectors = f.told_sectors; own = f.own; ahead = f.ahead; turn = f.turn }
+  frames_old f = record { later = f.later; keeps = f.keeps; told = f.told; told_keys = f.told_keys; told_sectors = f.told_sectors; own = f.own; cards = f.cards; lines = f.lines }
 
   did_old : (r : Result Next Break) → Did m t with_memo new before later r → Did m t old new before later r
   did_old r d = record { state = d.state; shown = shows_old _ _ d.shown; answers = d.answers; made = d.made; frames = frames_old d.frames }

@@ -18,12 +18,13 @@ use Rattle.command_line.specs.declared.words.Command.{Command}
 use Rattle.command_line.specs.Words.{Said}
 use Rattle.deck_punch.specs.declared.form.DeckForm.TheVariants.{SelfLoading}
 use Rattle.ibm1620_cli.specs.declared.status.Status.{Status}
+use Rattle.ibm1620_cli.specs.declared.answer.Answer.{Answer}
 use Rattle.ibm1620_cli.specs.declared.status.Status.TheVariants.{SessionEnded, OutOfMemory}
 use Rattle.ibm1620_cli.specs.Binding.{all_bound}
 use Rattle.ibm1620_cli.specs.Promise.{Job, job_behind, Promise, job_read, is_own, Texts, world_with_texts, AreTold}
 use Rattle.ibm1620_cli.specs.Promise as promise
-use Rattle.ibm1620_cli.specs.Turns.{Feed, status_of, ends_a_run, first_over, LoadedMachine, turns_job}
-use Rattle.ibm1620_cli.specs.Program.{deck_of, set_up_after_load, loaded_by}
+use Rattle.ibm1620_cli.specs.Turns.{Feed, status_of, ends_a_run, state_over, first_over, LoadedMachine, turns_job}
+use Rattle.ibm1620_cli.specs.Program.{deck_of, set_up_at_power_on, set_up_after_load, loaded_by}
 use Rattle.ibm1620_cli.specs.Source.{source_read, card_count, program_of, made_of, made_events, promise_by, assembly_promise}
 use Rattle.ibm1620_cli.specs.TrialJob.{trial_modules, trial_limit, job_of_trial, tried_promise}
 use Rattle.ibm1620_cli.specs.LoadJob.{script_read}
@@ -43,7 +44,7 @@ own_ends steps (ending.NeedKeys at) own = refl
 own_ends steps (ending.Jam u line) own = refl
 own_ends steps ending.Failed own = cc
 
-module _ (words : List (List ℕ)) (old new : Seen) (answer : Status) (t : FedTrial words old.world) where
+module _ (words : List (List ℕ)) (old new : Seen) (answer : Answer) (t : FedTrial words old.world) where
   abbrev w : World
   w = all_bound t.said.names old.world
 
@@ -54,7 +55,7 @@ module _ (words : List (List ℕ)) (old new : Seen) (answer : Status) (t : FedTr
   binds = bind_events all_units t.said.names
 
   abbrev Ends : Type 0
-  Ends = (ends_a_run answer ≡ true) ⊎ (is_refused answer ≡ true)
+  Ends = (ends_a_run answer.status ≡ true) ⊎ (is_refused answer.status ≡ true)
 
   abbrev Does : Option Job → Type 0
   Does o = IfSome o (λ j. promise.Ends j old new answer)
@@ -72,33 +73,35 @@ module _ (words : List (List ℕ)) (old new : Seen) (answer : Status) (t : FedTr
     job_is = ap (λ (command : Command). option_map (job_behind binds) (job_promise (modules_of t.said.core) command t.said given).job) t.command
 
     abbrev loaded : Feed → LoadedMachine
-    loaded feed = loaded_by (deck_of (program_of trial_modules SelfLoading source)) feed (first_over w (set_up_after_load (program_of trial_modules SelfLoading source) feed) [])
+    loaded feed =
+        let p = program_of trial_modules SelfLoading source in
+        loaded_by p feed (state_over w (set_up_at_power_on p feed)) (first_over w (set_up_after_load p feed) [])
 
     abbrev tried : Feed → Job
     tried feed = job_behind binds (job_of_trial t.said.statements t.said.number (card_count trial_modules SelfLoading source) (turns_job (Some (deck_of (program_of trial_modules SelfLoading source))) (made_events (made_of trial_modules SelfLoading source)) trial_limit (loaded feed)))
 
-    by_source : (o : Option Refusal) → is_own answer ≡ true → Does (option_map (job_behind binds) (by o).job) → Ends
+    by_source : (o : Option Refusal) → is_own answer.status ≡ true → Does (option_map (job_behind binds) (by o).job) → Ends
     by_source (Some r) own does = inr (ap is_refused does.status)
     by_source None own does =
         let one : Does (Some (tried t.feed)) = subst Does (ap (λ (o : Option Feed). option_map (job_behind binds) (option_map (job_of_trial t.said.statements t.said.number (card_count trial_modules SelfLoading source)) (option_map (λ feed. turns_job (Some (deck_of (program_of trial_modules SelfLoading source))) (made_events (made_of trial_modules SelfLoading source)) trial_limit (loaded feed)) o))) t.feed_is) does in
         let last = last_place trial_limit (loaded t.feed).first in
         inl (subst (λ (s : Status). ends_a_run s ≡ true) (sym one.status) (own_ends last.steps (ending_of last.state) (subst (λ (s : Status). is_own s ≡ true) one.status own)))
 
-  trial_said : DoesSaid t.said old new answer → (Rose old.faults new.faults → ⊥) → answer ≢ OutOfMemory → Ends
+  trial_said : DoesSaid t.said old new answer → (Rose old.faults new.faults → ⊥) → answer.status ≢ OutOfMemory → Ends
   trial_said kept none found = elim kept.keeps [
     | inl own ↦ by_source kept.texts (refusal_of (size trial_modules) source) own.own (subst Does (job_is kept.texts) own.all)
     | inr (inl fault) ↦ absurd (none fault.rose)
-    | inr (inr lacks) ↦ absurd (found lacks.status)
+    | inr (inr lacks) ↦ absurd (found (ap (λ (a : Answer). a.status) lacks.plain))
   ]
 
-  pub trial_of : Tells words old new answer → (Rose old.faults new.faults → ⊥) → answer ≢ OutOfMemory → Ends
+  pub trial_of : Tells words old new answer → (Rose old.faults new.faults → ⊥) → answer.status ≢ OutOfMemory → Ends
   trial_of (inl does) none found = trial_said (subst (λ (o : Option Said). DoesWords o old new answer) t.said_is does) none found
-  trial_of (inr lacks) none found = absurd (found lacks.status)
+  trial_of (inr lacks) none found = absurd (found lacks.0.lacks)
 
-pub trial_told : (words : List (List ℕ)) (old new : Seen) (answer : Status) → Tells words old new answer → TrialEnds words old new answer
+pub trial_told : (words : List (List ℕ)) (old new : Seen) (answer : Answer) → Tells words old new answer → TrialEnds words old new answer.status
 trial_told words old new answer tells t none found = trial_of words old new answer t tells none found
 
-module _ (words : List (List ℕ)) (old new : Seen) (answer : Status) (t : SoundSession words old.world) where
+module _ (words : List (List ℕ)) (old new : Seen) (answer : Answer) (t : SoundSession words old.world) where
   abbrev bound : World
   bound = all_bound t.said.names old.world
 
@@ -142,16 +145,16 @@ module _ (words : List (List ℕ)) (old new : Seen) (answer : Status) (t : Sound
         ∙ ap (λ (x : Option Refusal). behind (promise_by (debugged_promise m form t.said.limit t.lines t.commands) t.source x here).job) t.unbroken
         ∙ ap (λ (o : Option Feed). behind (option_map job_of o)) t.feed_is
 
-  session_said : DoesSaid t.said old new answer → (Rose old.faults new.faults → ⊥) → answer ≢ OutOfMemory → answer ≡ SessionEnded
+  session_said : DoesSaid t.said old new answer → (Rose old.faults new.faults → ⊥) → answer.status ≢ OutOfMemory → answer.status ≡ SessionEnded
   session_said kept none found = elim kept.keeps [
     | inl own ↦ (subst (λ (o : Option Job). IfSome o (λ j. promise.Ends j old new answer)) (session_is kept.texts kept.told) own.all).status
     | inr (inl fault) ↦ absurd (none fault.rose)
-    | inr (inr lacks) ↦ absurd (found lacks.status)
+    | inr (inr lacks) ↦ absurd (found (ap (λ (a : Answer). a.status) lacks.plain))
   ]
 
-  pub session_ends : Tells words old new answer → (Rose old.faults new.faults → ⊥) → answer ≢ OutOfMemory → answer ≡ SessionEnded
+  pub session_ends : Tells words old new answer → (Rose old.faults new.faults → ⊥) → answer.status ≢ OutOfMemory → answer.status ≡ SessionEnded
   session_ends (inl does) none found = session_said (subst (λ (o : Option Said). DoesWords o old new answer) t.said_is does) none found
-  session_ends (inr lacks) none found = absurd (found lacks.status)
+  session_ends (inr lacks) none found = absurd (found lacks.0.lacks)
 
-pub session_told : (words : List (List ℕ)) (old new : Seen) (answer : Status) → Tells words old new answer → SessionEnds words old new answer
+pub session_told : (words : List (List ℕ)) (old new : Seen) (answer : Answer) → Tells words old new answer → SessionEnds words old new answer.status
 session_told words old new answer tells t none found = session_ends words old new answer t tells none found

@@ -39,4 +39,4 @@ same_set_up p fits = λ i feed punched typed. is_entered p feed punched typed fi
 
 -- the headline
 pub headline : HeadlineLaw
-headline own before limit lines p feed punched typed fits = ap (λ (s : State). turns_job own before limit (loaded_by (deck_of p) feed (first_in s lines))) (is_entered p feed punched typed fits)
+headline own before limit lines p feed punched typed fits = ap (λ (s : State). turns_job own before limit (loaded_by p feed (set_up_at_power_on p feed punched typed) (first_in s lines))) (is_entered p feed punched typed fits)

@@ -9,13 +9,15 @@ use Rattle.outside_io.specs.Events.{Event, after_events, DidAll}
 use Rattle.outside_io.proofs.EventLemmas.{after_append, did_on, first_on, first_more}
 use Rattle.card_code.specs.Entries.{Entry}
 use Rattle.card_unit.specs.declared.hopper.Hopper.{Hopper}
-use Rattle.card_unit.specs.Hopper.{own_cards, IsOneAhead}
+use Rattle.card_unit.specs.Hopper.{deck_left, own_cards, Begins}
 use Rattle.cpu_step.specs.declared.machine.Machine.{Machine}
+use Rattle.cpu_step.specs.declared.console.Console.{Console}
 use Rattle.cpu_step.specs.State.{State}
 use Rattle.cpu_step.specs.Effects.{Effect}
 use Rattle.cpu_step.specs.Load.{state_for_load, load_trace, load_key, load_cut}
 use Rattle.cpu_step.specs.Outside.{all_outside, load_events}
 use Rattle.cpu_step.specs.Machine.{state_of, IsPowered, Frames, is_read, is_written}
+use Rattle.cpu_step.specs.Console.{shown_on}
 use Rattle.cpu_step.proofs.Exact.{exact, states_told, frames_both}
 use Rattle.cpu_step.proofs.InputsTaken.{HasTaken, taken_on, load_taken, load_cut_taken}
 use Rattle.cpu_step.proofs.Outside.{seen_by, load_seen, load_cut_seen, first_effects, did_between}
@@ -35,18 +37,20 @@ use Rattle.console_debug.specs.declared.commands.Commands.{Commands}
 use Rattle.console_debug.specs.Debugs.{Attends}
 use Rattle.ibm1620_cli.specs.declared.status.Status.{Status}
 use Rattle.ibm1620_cli.specs.declared.status.Status.TheVariants.{HostFault, OutOfMemory, SessionEnded}
+use Rattle.ibm1620_cli.specs.declared.answer.Answer.{Answer}
 use Rattle.ibm1620_cli.specs.Report.{report_line}
 use Rattle.ibm1620_cli.specs.Makings.{AreMakings}
 use Rattle.ibm1620_cli.specs.Inputs.{reads_feed, reads_pack}
-use Rattle.ibm1620_cli.specs.Promise.{job_leaving, TakesNone, Unasked, StopsAt, Promise, KeepsPromise}
+use Rattle.ibm1620_cli.specs.Ways.{Way, StandsOn, StandsInRun, in_key, in_deck}
+use Rattle.ibm1620_cli.specs.Promise.{job_leaving, answer_of, answer_with, TakesNone, Unasked, StopsAt, Promise, KeepsPromise}
 use Rattle.ibm1620_cli.specs.Turns.{Feed, state_over_feed, first_in, status_of, LoadedMachine, turns_job, turns_promise}
-use Rattle.ibm1620_cli.specs.Parts.{ReportsAs, BreaksKey, PressesKey, BreaksSteps, MakesSteps, TakesTurns, Executes, HoldsSession, lacks_memory, breaks_key, breaks_steps, takes_turns, breaks_session, ends_session, Stays}
+use Rattle.ibm1620_cli.specs.Parts.{ReportsAs, ShowsMachine, BreaksKey, PressesKey, BreaksSteps, MakesSteps, TakesTurns, Executes, HoldsSession, lacks_memory, breaks_key, breaks_steps, takes_turns, breaks_session, ends_session, Stays}
 use Rattle.ibm1620_cli.proofs.SetUps.{set_up_after_steps, machine_after_steps}
 use Rattle.ibm1620_cli.proofs.Told.{if_some, if_both, if_told, if_mapped, of_map, map_twice, none_told}
 use Rattle.ibm1620_cli.proofs.Kept.{once_same, report_stays, stays_on, stays_again, stays_same, neither}
 use Rattle.ibm1620_cli.proofs.TakenInputs.{makings_take, taken_behind}
-use Rattle.ibm1620_cli.proofs.Leaving.{AsksInOrder, powered_asks, frames_ask, machine_asks}
-use Rattle.ibm1620_cli.proofs.Turned.{IsLoaded, promise_run}
+use Rattle.ibm1620_cli.proofs.Leaving.{Supply, rest_at, HasReadOf, powered_reads, frames_read, machine_asks}
+use Rattle.ibm1620_cli.proofs.Turned.{IsLoaded, supply_of, way_of, promise_run}
 
 -- where a run ended, its machine shows the last place's state
 ran_by : {A : Type 0} (k : ℕ) (o : Option A) (x here : Option RunPlace) (y z : Option State) (g : A → RunPlace) (how : Ending) → z ≡ option_map (λ a. (g a).state) o → x ≡ option_map g o → is_some y ≡ is_some z
@@ -72,11 +76,11 @@ run_stays m limit old new before after (ending.NeedCards at) runs = frames_stay 
 run_stays m limit old new before after (ending.NeedKeys at) runs = frames_stay m old.machine new.machine before after runs.frames
 run_stays m limit old new before after (ending.Jam u n) runs = frames_stay m old.machine new.machine before after runs.frames
 
-turns_stay : (m limit : ℕ) (machine : Machine m) (script : Script) (old new : Seen) (answer : Status) → TakesTurns m limit machine script old new answer → Stays reads_feed old.world new.world
+turns_stay : (m limit : ℕ) (machine : Machine m) (script : Script) (old new : Seen) (answer : Answer) → TakesTurns m limit machine script old new answer → Stays reads_feed old.world new.world
 turns_stay m limit machine script old new answer taken =
     stays_on reads_feed old.world taken.mid.world new.world
     (run_stays m limit (run_state m machine script 0) (run_state m taken.left taken.left_script taken.steps) old taken.mid taken.how taken.runs)
-    (report_stays taken.mid new (status_of taken.steps taken.how) (report_line (status_of taken.steps taken.how)) answer taken.reports)
+    (report_stays taken.mid new (status_of taken.steps taken.how) (report_line (status_of taken.steps taken.how)) answer.status taken.reports)
 
 -- a run that didn't fail came to its end
 pub runs_out : (m limit : ℕ) (old new : RunState m) (before after : Seen) (how : Ending) → (how ≡ ending.Failed → ⊥) → Runs m limit (moment_at m old before) (moment_at m new after) how → RunsOut m limit (moment_at m old before) (moment_at m new after) how
@@ -93,10 +97,10 @@ pub broke_off : (m limit : ℕ) (old new : RunState m) (before after : Seen) (ho
 broke_off m limit old new before after how is runs = subst (λ (h : Ending). Runs m limit (moment_at m old before) (moment_at m new after) h) is runs
 
 -- and so all of it
-pub executes_stays : (m steps limit : ℕ) (hopper : Hopper) (script : Script) (old new : Seen) (answer : Status) → Executes m steps limit hopper script old new answer → Stays reads_feed old.world new.world
+pub executes_stays : (m steps limit : ℕ) (hopper : Hopper) (script : Script) (old new : Seen) (answer : Answer) → Executes m steps limit hopper script old new answer → Stays reads_feed old.world new.world
 executes_stays m steps limit hopper script old new answer (lacks_memory status same) = stays_same reads_feed old new same
-executes_stays m steps limit hopper script old new answer (breaks_key status broke) = frames_stay m broke.machine broke.keyed old new broke.breaks.makes.frames
-executes_stays m steps limit hopper script old new answer (breaks_steps pressed key status broke) =
+executes_stays m steps limit hopper script old new answer (breaks_key status broke shows) = frames_stay m broke.machine broke.keyed old new broke.breaks.makes.frames
+executes_stays m steps limit hopper script old new answer (breaks_steps pressed key status broke shows) =
     stays_again old.world pressed.world new.world (frames_stay m key.machine key.keyed old pressed key.makes.frames) (frames_stay m key.keyed broke.left pressed new broke.breaks.frames)
 executes_stays m steps limit hopper script old new answer (takes_turns pressed ready_at key ready made taken) =
     stays_again old.world pressed.world new.world (frames_stay m key.machine key.keyed old pressed key.makes.frames)
@@ -116,18 +120,25 @@ run_later m limit old new before after (ending.NeedKeys at) runs = runs.frames.l
 run_later m limit old new before after (ending.Jam u n) runs = runs.frames.later
 
 -- nor do faults fall
-pub executes_later : (m steps limit : ℕ) (hopper : Hopper) (script : Script) (old new : Seen) (answer : Status) → Executes m steps limit hopper script old new answer → old.faults ≤ new.faults
+pub executes_later : (m steps limit : ℕ) (hopper : Hopper) (script : Script) (old new : Seen) (answer : Answer) → Executes m steps limit hopper script old new answer → old.faults ≤ new.faults
 executes_later m steps limit hopper script old new answer (lacks_memory status same) = rw same (omega arith)
-executes_later m steps limit hopper script old new answer (breaks_key status broke) = broke.breaks.makes.frames.later
-executes_later m steps limit hopper script old new answer (breaks_steps pressed key status broke) = omega (arith, key.makes.frames.later, broke.breaks.frames.later)
+executes_later m steps limit hopper script old new answer (breaks_key status broke shows) = broke.breaks.makes.frames.later
+executes_later m steps limit hopper script old new answer (breaks_steps pressed key status broke shows) = omega (arith, key.makes.frames.later, broke.breaks.frames.later)
 executes_later m steps limit hopper script old new answer (takes_turns pressed ready_at key ready made taken) =
     omega (
       arith,
       key.makes.frames.later,
       made.out.frames.later,
       run_later m limit (run_state m ready script 0) (run_state m taken.left taken.left_script taken.steps) ready_at taken.mid taken.how taken.runs,
-      report_later taken.mid new (status_of taken.steps taken.how) (report_line (status_of taken.steps taken.how)) answer taken.reports,
+      report_later taken.mid new (status_of taken.steps taken.how) (report_line (status_of taken.steps taken.how)) answer.status taken.reports,
     )
+
+-- and no statement is shown
+pub executes_unrefused : (m steps limit : ℕ) (hopper : Hopper) (script : Script) (old new : Seen) (answer : Answer) → Executes m steps limit hopper script old new answer → answer.refusal ≡ None
+executes_unrefused m steps limit hopper script old new answer (lacks_memory status same) = ap (λ (a : Answer). a.refusal) status
+executes_unrefused m steps limit hopper script old new answer (breaks_key status broke shows) = shows.refusal
+executes_unrefused m steps limit hopper script old new answer (breaks_steps pressed key status broke shows) = shows.refusal
+executes_unrefused m steps limit hopper script old new answer (takes_turns pressed ready_at key ready made taken) = taken.shows.refusal
 
 -- WHAT LOADING DOES
 
@@ -151,26 +162,37 @@ part_keyed w s t all d = record {
   part = first_on (load_events s) d.done all d.part;
 }
 
--- a machine was powered on, behind what was done before, and stands where a first part of a list was done: there its job stops
-pub stops_on : (m : ℕ) (own : Option (List (List ℕ))) (before all more : List Event) (machine now : Machine m) (base start new : World) (from last t : State) (status : Status) (line : List ℕ) → TakesNone before → DidAll before base start → Keeps is_read is_written true start new
-    → state_of m machine start ≡ Some from → state_of m now new ≡ Some t → DoesPart start from t all → AsksInOrder m own now new
-    → StopsAt (job_leaving (Some (record { state = last; own = own; cards = from.hopper; keys = from.keys })) status line (before ++ (all ++ more))) base new
-stops_on m own before all more machine now base start new from last t status line none did keeps here there d asks = record {
+-- an answer with the console of a machine shows it
+pub shows_console : (m : ℕ) (machine : Machine m) (answer : Answer) (status : Status) (console : Console) → answer ≡ answer_with status console → console ≡ shown_on m machine → ShowsMachine m machine answer
+shows_console m machine answer status console is shown = record {
+  console = ap (λ (a : Answer). a.console) is ∙ ap (λ (c : Console). Some c) shown;
+  refusal = ap (λ (a : Answer). a.refusal) is;
+}
+
+-- and what is reported is its status
+pub reports_console : (mid new : Seen) (said status : Status) (line : List ℕ) (console : Console) (answer : Answer) → answer ≡ answer_with status console → ReportsAs mid new said line status → ReportsAs mid new said line answer.status
+reports_console mid new said status line console answer is reports = subst (λ (a : Answer). ReportsAs mid new said line a.status) (sym is) reports
+
+-- a machine was powered on, behind what was done before, and stands on its way where a first part of a list was done: there its job stops
+pub stops_on : (m : ℕ) (had : Supply) (way : Way) (before all more : List Event) (machine now : Machine m) (base start new : World) (from last t : State) (shown : Option Console) (status : Status) (line : List ℕ) → TakesNone before → DidAll before base start
+    → Keeps is_read is_written true start new → state_of m machine start ≡ Some from → state_of m now new ≡ Some t → DoesPart start from t all → from.hopper ≡ had.cards → from.keys ≡ had.keys → HasReadOf m had now new → shown ≡ Some (shown_on m now) → StandsOn way t
+    → StopsAt (job_leaving (Some (rest_at had last)) (Some way) status line (before ++ (all ++ more))) shown base new
+stops_on m had way before all more machine now base start new from last t shown status line none did keeps here there d cards keys has shows stands = record {
   did = record {
     done = before ++ d.done;
     part = first_more (before ++ d.done) (before ++ (all ++ more)) _ (first_on before d.done (all ++ more) (first_more d.done all more d.part));
     did = did_on before d.done base start new did (did_between m machine now start new from t d.done keeps here there d.seen);
   };
-  inputs = machine_asks m own now from last (before ++ d.done) base new t there (taken_behind before d.done from t none d.taken) asks;
+  inputs = machine_asks m had now way from last (before ++ d.done) base new t shown there (taken_behind before d.done from t none d.taken) cards keys has shows (inl stands);
 }
 
 -- what the Load key and the steps of a deck do
-module _ (m steps : ℕ) (w : World) (lines : List ScriptLine) (cards : List Entry) (feed : Feed) where
+module _ (m steps : ℕ) (w : World) (lines : List ScriptLine) (pile cards : List Entry) (feed : Feed) where
   abbrev powered : State
   powered = state_over_feed m (w.written units.Punched) (w.written units.Typed) cards feed
 
   abbrev machine : LoadedMachine
-  machine = machine_after_steps m steps w lines cards feed
+  machine = machine_after_steps m steps w lines pile cards feed
 
   loading_seen : seen_by w machine.first.state ≡ after_events (seen_by w powered) machine.taken
   unfolding set_up_after_steps
@@ -189,10 +211,10 @@ module _ (m steps : ℕ) (w : World) (lines : List ScriptLine) (cards : List Ent
 
 -- ALL OF IT
 
-module _ {A : Type 0} (m steps limit : ℕ) (own : Option (List (List ℕ))) (before : List Event) (cards_of : A → List Entry) (feed_of : A → Feed) (told : Option A) (hopper : Hopper) (script : Script) (base start : Seen)
+module _ {A : Type 0} (m steps limit : ℕ) (own : Option (List (List ℕ))) (before : List Event) (pile_of cards_of : A → List Entry) (feed_of : A → Feed) (told : Option A) (hopper : Hopper) (script : Script) (base start : Seen)
     (is_powered : (machine : Machine m) → IsPowered m hopper machine
     → state_of m machine start.world ≡ option_map (λ a. state_over_feed m (start.world.written units.Punched) (start.world.written units.Typed) (cards_of a) (feed_of a)) told)
-    (later : base.faults ≤ start.faults) (did : DidAll before base.world start.world) (still : Unasked base.world start.world) (makings : AreMakings before) (own_is : own_cards hopper ≡ own) (ahead : (w : World) → IsOneAhead hopper w) where
+    (later : base.faults ≤ start.faults) (did : DidAll before base.world start.world) (still : Unasked base.world start.world) (makings : AreMakings before) (own_is : own_cards hopper ≡ own) (begins : Begins hopper) (pile_is : IfSome told (λ a. IfSome (deck_left hopper start.world) (λ left. pile_of a ≡ left))) where
   abbrev cards : Option (List ℕ)
   cards = start.world.written units.Punched
 
@@ -206,10 +228,13 @@ module _ {A : Type 0} (m steps limit : ℕ) (own : Option (List (List ℕ))) (be
   key_at a = first_in (load_key (powered_by a)) []
 
   abbrev loaded_machine : A → LoadedMachine
-  loaded_machine a = machine_after_steps m steps start.world (lines_left script) (cards_of a) (feed_of a)
+  loaded_machine a = machine_after_steps m steps start.world (lines_left script) (pile_of a) (cards_of a) (feed_of a)
 
   abbrev first : A → RunPlace
   first a = (loaded_machine a).first
+
+  abbrev supply : A → Supply
+  supply a = supply_of own (loaded_machine a)
 
   abbrev promise : Promise
   promise = turns_promise own before limit loaded_machine told
@@ -219,7 +244,7 @@ module _ {A : Type 0} (m steps limit : ℕ) (own : Option (List (List ℕ))) (be
 
   -- where a machine stands within the loading
   abbrev Within : (machine : Machine m) (now : World) (a : A) → Type 0
-  Within machine now a = (s : State) × (state_of m machine now ≡ Some s) × DoesPart start.world (powered_by a) s (loaded_machine a).taken
+  Within machine now a = (s : State) × (state_of m machine now ≡ Some s) × DoesPart start.world (powered_by a) s (loaded_machine a).taken × StandsInRun (powered_by a) steps limit (first a) s
 
   abbrev IsOn : Machine m → A → Type 0
   IsOn machine a = state_of m machine start.world ≡ Some (powered_by a)
@@ -227,30 +252,44 @@ module _ {A : Type 0} (m steps limit : ℕ) (own : Option (List (List ℕ))) (be
   on_power : (machine : Machine m) → IsPowered m hopper machine → IfSome told (IsOn machine)
   on_power machine powered = of_map told powered_by (state_of m machine start.world) (IsOn machine) (is_powered machine powered) (λ a is. is)
 
+  -- there its reader and its keyboard have read nothing yet
+  abbrev HasReadBy : Machine m → World → A → Type 0
+  HasReadBy machine now a = HasReadOf m (supply a) machine now
+
+  reads_on_power : (machine : Machine m) → IsPowered m hopper machine → IfSome told (HasReadBy machine start.world)
+  reads_on_power machine powered =
+      if_both told (λ a told_pile on. powered_reads m own (pile_of a) hopper machine start.world (powered_by a) own_is begins told_pile powered on) pile_is (on_power machine powered)
+
+  -- there its job stops
+  stops_within : (machine now : Machine m) (new : World) (shown : Option Console) → shown ≡ Some (shown_on m now) → Keeps is_read is_written true start.world new → (a : A) → IsOn machine a → HasReadBy now new a → Within now new a → StopsAt (turns_job own before limit (loaded_machine a)) shown base.world new
+  stops_within machine now new shown shows keeps a on has here =
+      stops_on m (supply a) (way_of limit (loaded_machine a)) before (loaded_machine a).taken (run_events limit (first a)) machine now base.world start.world new (powered_by a) (last_place limit (first a)).state here.0 shown _ _ none did keeps on here.1 here.2 refl refl has shows here.3
+
+  reads_on : (machine now : Machine m) (new : Seen) → Frames m machine now start new → (a : A) → HasReadBy machine start.world a → HasReadBy now new.world a
+  reads_on machine now new frames a has = frames_read m (supply a) machine now start new frames has
+
   -- the host failed there
-  fault_at : (machine now : Machine m) (new : Seen) → IsPowered m hopper machine → Frames m machine now start new → Rose base.faults new.faults → IfSome told (Within now new.world) → KeepsPromise promise base new HostFault
-  fault_at machine now new powered frames rose within = inr (inl (record {
-    status = refl;
+  fault_at : (machine now : Machine m) (new : Seen) (answer : Answer) → answer.status ≡ HostFault → ShowsMachine m now answer → IsPowered m hopper machine → Frames m machine now start new → Rose base.faults new.faults → IfSome told (Within now new.world) → KeepsPromise promise base new answer
+  fault_at machine now new answer fault shows powered frames rose within = inr (inl (record {
+    status = fault;
+    refusal = shows.refusal;
     rose = rose;
-    part = if_mapped (λ j. StopsAt j base.world new.world) (λ a. StopsAt (turns_job own before limit (loaded_machine a)) base.world new.world) told (λ a. turns_job own before limit (loaded_machine a)) (λ a x. x)
-        (if_both told
-        (λ a on here.
-        stops_on m own before (loaded_machine a).taken (run_events limit (first a)) machine now base.world start.world new.world (powered_by a) (last_place limit (first a)).state here.0 _ _ none did frames.keeps on here.1 here.2
-        (frames_ask m own machine now start new frames (powered_asks m own hopper machine start.world own_is ahead powered)))
-        (on_power machine powered) within);
+    part = if_mapped (λ j. StopsAt j answer.console base.world new.world) (λ a. StopsAt (turns_job own before limit (loaded_machine a)) answer.console base.world new.world) told (λ a. turns_job own before limit (loaded_machine a)) (λ a x. x)
+        (if_both told (λ a f here. f here)
+        (if_both told (stops_within machine now new.world answer.console shows.console frames.keeps) (on_power machine powered) (if_some told (reads_on machine now new frames) (reads_on_power machine powered))) within);
   }))
 
-  for_memory : KeepsPromise promise base start OutOfMemory
-  for_memory = inr (inr (record { words = refl; status = refl; done = before; did = did; makings = makings; part = ([], append-nil before); unasked = still }))
+  for_memory : KeepsPromise promise base start (answer_of OutOfMemory)
+  for_memory = inr (inr (record { words = refl; plain = refl; done = before; did = did; makings = makings; part = ([], append-nil before); unasked = still }))
 
-  for_key : (new : Seen) → BreaksKey m hopper start new → KeepsPromise promise base new HostFault
-  for_key new broke =
+  for_key : (new : Seen) (answer : Answer) → answer.status ≡ HostFault → (broke : BreaksKey m hopper start new) → ShowsMachine m broke.keyed answer → KeepsPromise promise base new answer
+  for_key new answer fault broke shows =
       let makes = broke.breaks.makes in
       let cut : State → State = load_cut broke.breaks.done in
-      fault_at broke.machine broke.keyed new broke.powered makes.frames (omega (arith, later, broke.breaks.rose))
+      fault_at broke.machine broke.keyed new answer fault shows broke.powered makes.frames (omega (arith, later, broke.breaks.rose))
       (of_map told (λ a. cut (powered_by a)) (state_of m broke.keyed new.world) (Within broke.keyed new.world)
       (exact m cut broke.machine broke.keyed start new makes ∙ ap (λ (o : Option State). option_map cut o) (is_powered broke.machine broke.powered) ∙ map_twice told cut powered_by)
-      (λ a is. (cut (powered_by a), is, key_part start.world broke.breaks.done (powered_by a) (run_events steps (key_at a)))))
+      (λ a is. (cut (powered_by a), is, key_part start.world broke.breaks.done (powered_by a) (run_events steps (key_at a)), in_key broke.breaks.done refl)))
 
   module _ (pressed : Seen) (key : PressesKey m hopper start pressed) where
     keyed_state : state_of m key.keyed pressed.world ≡ option_map (λ a. load_key (powered_by a)) told
@@ -266,20 +305,21 @@ module _ {A : Type 0} (m steps limit : ℕ) (own : Option (List (List ℕ))) (be
         ∙ ap (λ (lines : List ScriptLine). option_map (λ a. first_in (load_key (powered_by a)) lines) told) no_lines
 
     module _ (new : Seen) (broke : BreaksSteps m steps key.keyed pressed new) where
-      abbrev Way : RunPlace → Type 0
-      Way p0 = (q : RunPlace) × (place_of m (run_state m broke.left broke.left_script broke.made) new.world ≡ Some q) × IsOnTheWay steps p0 q
+      abbrev OnTheWay : RunPlace → Type 0
+      OnTheWay p0 = (q : RunPlace) × (place_of m (run_state m broke.left broke.left_script broke.made) new.world ≡ Some q) × IsOnTheWay steps p0 q
 
-      within_steps : (a : A) → Way (key_at a) → Within broke.left new.world a
+      within_steps : (a : A) → OnTheWay (key_at a) → Within broke.left new.world a
       within_steps a way = (
         way.0.state,
         (place_is m (run_state m broke.left broke.left_script broke.made) new.world way.0 way.1).0,
         part_keyed start.world (powered_by a) way.0.state (run_events steps (key_at a)) (way_did start.world steps (key_at a) way.0 (omega arith) way.2),
+        in_deck way.0 way.2 refl,
       )
 
-      for_steps : KeepsPromise promise base new HostFault
-      for_steps =
-          fault_at key.machine broke.left new key.powered (frames_both m key.machine key.keyed broke.left start pressed new key.makes.frames broke.breaks.frames) (omega (arith, later, key.makes.frames.later, broke.breaks.rose))
-          (if_some told within_steps (if_told Way told key_at (place_of m (run_state m key.keyed broke.none 0) pressed.world) (keyed_place broke.none broke.no_lines) broke.breaks.on_the_way))
+      for_steps : (answer : Answer) → answer.status ≡ HostFault → ShowsMachine m broke.left answer → KeepsPromise promise base new answer
+      for_steps answer fault shows =
+          fault_at key.machine broke.left new answer fault shows key.powered (frames_both m key.machine key.keyed broke.left start pressed new key.makes.frames broke.breaks.frames) (omega (arith, later, key.makes.frames.later, broke.breaks.rose))
+          (if_some told within_steps (if_told OnTheWay told key_at (place_of m (run_state m key.keyed broke.none 0) pressed.world) (keyed_place broke.none broke.no_lines) broke.breaks.on_the_way))
 
     module _ (ready : Machine m) (ready_at : Seen) (made : MakesSteps m steps key.keyed ready pressed ready_at) where
       ready_state : state_of m ready ready_at.world ≡ option_map (λ a. (first a).state) told
@@ -302,24 +342,27 @@ module _ {A : Type 0} (m steps limit : ℕ) (own : Option (List (List ℕ))) (be
       did_loading a on is =
           did_on before (loaded_machine a).taken base.world start.world ready_at.world did
           (did_between m key.machine ready start.world ready_at.world (powered_by a) (first a).state (loaded_machine a).taken frames.keeps on
-          (place_is m (run_state m ready script 0) ready_at.world (first a) is).0 (loading_seen m steps start.world (lines_left script) (cards_of a) (feed_of a)))
+          (place_is m (run_state m ready script 0) ready_at.world (first a) is).0 (loading_seen m steps start.world (lines_left script) (pile_of a) (cards_of a) (feed_of a)))
 
       did_ready : IfSome told (λ a. DidAll (before ++ (loaded_machine a).taken) base.world ready_at.world)
       did_ready =
           if_both told did_loading (on_power key.machine key.powered)
           (of_map told first (place_of m (run_state m ready script 0) ready_at.world) (λ a. place_of m (run_state m ready script 0) ready_at.world ≡ Some (first a)) is_first (λ a is. is))
 
-      for_turns : (new : Seen) (answer : Status) → TakesTurns m limit ready script ready_at new answer → KeepsPromise promise base new answer
+      reads_ready : IfSome told (HasReadBy ready ready_at.world)
+      reads_ready = if_some told (λ a has. frames_read m (supply a) key.machine ready start ready_at frames has) (reads_on_power key.machine key.powered)
+
+      for_turns : (new : Seen) (answer : Answer) → TakesTurns m limit ready script ready_at new answer → KeepsPromise promise base new answer
       for_turns new answer taken =
           promise_run m limit own before loaded_machine told ready taken.left script taken.left_script base ready_at taken.mid (omega (arith, later, frames.later)) (λ a. omega arith) is_first did_ready
-          (λ a. steps_loaded m steps start.world (lines_left script) (cards_of a) (feed_of a)) (frames_ask m own key.machine ready start ready_at frames (powered_asks m own hopper key.machine start.world own_is ahead key.powered)) none
-          taken.steps taken.how taken.runs new answer taken.reports
+          (λ a. steps_loaded m steps start.world (lines_left script) (pile_of a) (cards_of a) (feed_of a)) reads_ready none
+          taken.steps taken.how taken.runs new answer taken.reports taken.shows
 
   -- all its ends
-  pub promise_executes : (new : Seen) (answer : Status) → Executes m steps limit hopper script start new answer → KeepsPromise promise base new answer
-  promise_executes new answer (lacks_memory status same) = rw (status, same) for_memory
-  promise_executes new answer (breaks_key status broke) = rw status (for_key new broke)
-  promise_executes new answer (breaks_steps pressed key status broke) = rw status (for_steps pressed key new broke)
+  pub promise_executes : (new : Seen) (answer : Answer) → Executes m steps limit hopper script start new answer → KeepsPromise promise base new answer
+  promise_executes new answer (lacks_memory is same) = subst (λ (a : Answer). KeepsPromise promise base new a) (sym is) (subst (λ (s : Seen). KeepsPromise promise base s (answer_of OutOfMemory)) (sym same) for_memory)
+  promise_executes new answer (breaks_key fault broke shows) = for_key new answer fault broke shows
+  promise_executes new answer (breaks_steps pressed key fault broke shows) = for_steps pressed key new broke answer fault shows
   promise_executes new answer (takes_turns pressed ready_at key ready made taken) = for_turns pressed key ready ready_at made new answer taken
 
 -- A SESSION
@@ -334,11 +377,11 @@ attends_stay m old new before after attends = record {
   once = λ u fed. once_same _ _ (attends.keeps.asked u (neither (is_read u) (reads_pack u) fed).0);
 }
 
-pub session_stays : (m limit : ℕ) (placed : List PlacedText) (hopper : Hopper) (script : Script) (commands : Commands) (old new : Seen) (answer : Status) → HoldsSession m limit placed hopper script commands old new answer → Stays reads_feed old.world new.world
+pub session_stays : (m limit : ℕ) (placed : List PlacedText) (hopper : Hopper) (script : Script) (commands : Commands) (old new : Seen) (answer : Answer) → HoldsSession m limit placed hopper script commands old new answer → Stays reads_feed old.world new.world
 session_stays m limit placed hopper script commands old new answer (lacks_memory status same) = stays_same reads_feed old new same
-session_stays m limit placed hopper script commands old new answer (breaks_key status broke) = frames_stay m broke.machine broke.keyed old new broke.breaks.makes.frames
-session_stays m limit placed hopper script commands old new answer (breaks_session pressed key left left_script status broke) =
+session_stays m limit placed hopper script commands old new answer (breaks_key status broke shows) = frames_stay m broke.machine broke.keyed old new broke.breaks.makes.frames
+session_stays m limit placed hopper script commands old new answer (breaks_session pressed key left left_script status shows broke) =
     stays_again old.world pressed.world new.world (frames_stay m key.machine key.keyed old pressed key.makes.frames) (attends_stay m key.keyed left pressed new broke.frames)
-session_stays m limit placed hopper script commands old new answer (ends_session pressed mid key left left_script set ended reports) =
+session_stays m limit placed hopper script commands old new answer (ends_session pressed mid key left left_script set ended reports shows) =
     stays_again old.world pressed.world new.world (frames_stay m key.machine key.keyed old pressed key.makes.frames)
-    (stays_on reads_feed pressed.world mid.world new.world (attends_stay m key.keyed left pressed mid ended.frames) (report_stays mid new SessionEnded (report_line SessionEnded) answer reports))
+    (stays_on reads_feed pressed.world mid.world new.world (attends_stay m key.keyed left pressed mid ended.frames) (report_stays mid new SessionEnded (report_line SessionEnded) answer.status reports))

@@ -9,6 +9,7 @@ use Rattle.outside_io.specs.World.{World, Seen, Rose, IsFresh, HasNoText, all_un
 use Rattle.outside_io.specs.Events.{Event, after_events, text_events, DidAll}
 use Rattle.outside_io.proofs.EventLemmas.{after_append}
 use Rattle.digit_core.specs.Size.{IsSize, size}
+use Rattle.cpu_step.specs.State.{State}
 use Rattle.operator_script.specs.declared.script.ScriptLine.{ScriptLine}
 use Rattle.operator_script.specs.Turn.{RunPlace, last_place, most_turns, ending_of}
 use Rattle.operator_script.specs.TurnEvents.{run_events}
@@ -22,12 +23,13 @@ use Rattle.command_line.specs.Words.{Names, Said}
 use Rattle.command_line.specs.declared.words.CoreSize.{CoreSize}
 use Rattle.command_line.specs.declared.words.CoreSize.TheVariants.{OneModule, TwoModules, ThreeModules}
 use Rattle.ibm1620_cli.specs.declared.status.Status.{Status}
+use Rattle.ibm1620_cli.specs.declared.answer.Answer.{Answer}
 use Rattle.ibm1620_cli.specs.declared.status.Status.TheVariants.{OutOfMemory}
 use Rattle.ibm1620_cli.specs.Report.{report_line}
 use Rattle.ibm1620_cli.specs.Binding.{all_bound}
 use Rattle.ibm1620_cli.specs.Promise.{Job, job_read, job_behind, Ends, is_own, Texts, world_with_texts, AreTold}
-use Rattle.ibm1620_cli.specs.Turns.{Feed, SetUp, ends_a_run, first_over, turns_job}
-use Rattle.ibm1620_cli.specs.Program.{Program, Fits, deck_of, loaded_by, set_up_after_load, set_up_at_start}
+use Rattle.ibm1620_cli.specs.Turns.{Feed, SetUp, ends_a_run, state_over, first_over, turns_job}
+use Rattle.ibm1620_cli.specs.Program.{Program, Fits, deck_of, loaded_by, set_up_at_power_on, set_up_after_load, set_up_at_start}
 use Rattle.ibm1620_cli.specs.Source.{source_read, program_of, made_of, made_events, promise_by, assembly_promise}
 use Rattle.ibm1620_cli.specs.LoadJob.{script_read}
 use Rattle.ibm1620_cli.specs.RunJob.{turned_promise, script_promise}
@@ -85,7 +87,7 @@ writes_taken : (deck : List (List ℕ)) → AreWrites (deck_taken deck)
 writes_taken [] = tt
 writes_taken (card ∷ cards) = writes_taken cards
 
-module _ (words : List (List ℕ)) (old new : Seen) (answer : Status) (r : SoundRun words old.world) where
+module _ (words : List (List ℕ)) (old new : Seen) (answer : Answer) (r : SoundRun words old.world) where
   abbrev p : Program
   p = program_of (modules_of r.core) r.form r.source
 
@@ -104,8 +106,11 @@ module _ (words : List (List ℕ)) (old new : Seen) (answer : Status) (r : Sound
   abbrev first : SetUp → RunPlace
   first s = first_over w s r.lines
 
+  abbrev powered : Feed → State
+  powered feed = state_over w (set_up_at_power_on p feed)
+
   abbrev whole : SetUp → Job
-  whole s = job_behind binds (turns_job (Some (deck_of p)) made r.limit (loaded_by (deck_of p) r.feed (first s)))
+  whole s = job_behind binds (turns_job (Some (deck_of p)) made r.limit (loaded_by p r.feed (powered r.feed) (first s)))
 
   abbrev said : Said
   said = run_said r.names r.limit r.statements r.number r.form r.core
@@ -128,7 +133,7 @@ module _ (words : List (List ℕ)) (old new : Seen) (answer : Status) (r : Sound
         ∙ ap (λ (left : Option (List ℕ)). option_map (job_behind binds) (option_and_then (λ text. by_source (source_read text)) left)) (told_text (w.left units.Source) r.source t.source r.source_is told.source)
         ∙ ap (λ (x : Result (List ℕ) Status). option_map (job_behind binds) (by_source x)) (short_source r.source r.source_fits)
         ∙ ap (λ (x : Option Refusal). option_map (job_behind binds) (promise_by (turned_promise (modules_of r.core) r.form r.limit r.lines) r.source x given).job) r.unbroken
-        ∙ ap (λ (o : Option Feed). option_map (job_behind binds) (option_map (λ feed. turns_job (Some (deck_of p)) made r.limit (loaded_by (deck_of p) feed (first (set_up_after_load p feed)))) o)) r.feed_is
+        ∙ ap (λ (o : Option Feed). option_map (job_behind binds) (option_map (λ feed. turns_job (Some (deck_of p)) made r.limit (loaded_by p feed (powered feed) (first (set_up_after_load p feed)))) o)) r.feed_is
 
   set_up_is : set_up_after_load p r.feed ≡ set_up_at_start p r.feed
   set_up_is = λ i. same_set_up p fits i r.feed
@@ -151,7 +156,7 @@ module _ (words : List (List ℕ)) (old new : Seen) (answer : Status) (r : Sound
       (writes_both reads_pack (deck_taken (deck_of p)) (run_events r.limit place) (writes_taken (deck_of p)) (writes_within r.limit (most_turns r.limit place) place)))
       (writes_text reads_pack units.Report (report_line (job_in r).status))
 
-  by_does : IsFresh old.world → is_own answer ≡ true → Ends (job_in r) old new answer → DoesProgram old r new answer
+  by_does : IsFresh old.world → is_own answer.status ≡ true → Ends (job_in r) old new answer → DoesProgram old r new answer
   by_does fresh own does = record {
     loads = loads_in p.form p.image p.start fits.each fits.above;
     enters = set_up_is;
@@ -160,16 +165,16 @@ module _ (words : List (List ℕ)) (old new : Seen) (answer : Status) (r : Sound
     ending = subst (λ (s : Status). ends_a_run s ≡ true) (sym does.status) (own_ends (last_place r.limit place).steps (ending_of (last_place r.limit place).state) (subst (λ (s : Status). is_own s ≡ true) does.status own));
   }
 
-  of_said : IsFresh old.world → DoesSaid said old new answer → (Rose old.faults new.faults → ⊥) → answer ≢ OutOfMemory → DoesProgram old r new answer
+  of_said : IsFresh old.world → DoesSaid said old new answer → (Rose old.faults new.faults → ⊥) → answer.status ≢ OutOfMemory → DoesProgram old r new answer
   of_said fresh kept none found = elim kept.keeps [
     | inl own ↦ by_does fresh own.own (subst (λ (o : Option Job). IfSome o (λ j. Ends j old new answer)) (entered_is kept.texts kept.told) own.all)
     | inr (inl fault) ↦ absurd (none fault.rose)
-    | inr (inr lacks) ↦ absurd (found lacks.status)
+    | inr (inr lacks) ↦ absurd (found (ap (λ (a : Answer). a.status) lacks.plain))
   ]
 
-  pub of_told : IsFresh old.world → Tells words old new answer → (Rose old.faults new.faults → ⊥) → answer ≢ OutOfMemory → DoesProgram old r new answer
+  pub of_told : IsFresh old.world → Tells words old new answer → (Rose old.faults new.faults → ⊥) → answer.status ≢ OutOfMemory → DoesProgram old r new answer
   of_told fresh (inl does) none found = of_said fresh (subst (λ (o : Option Said). DoesWords o old new answer) r.said does) none found
-  of_told fresh (inr lacks) none found = absurd (found lacks.status)
+  of_told fresh (inr lacks) none found = absurd (found lacks.0.lacks)
 
-pub headline_told : (words : List (List ℕ)) (old new : Seen) (answer : Status) → IsFresh old.world → Tells words old new answer → Headline words old new answer
+pub headline_told : (words : List (List ℕ)) (old new : Seen) (answer : Answer) → IsFresh old.world → Tells words old new answer → Headline words old new answer
 headline_told words old new answer fresh tells r none found = of_told words old new answer r fresh tells none found

@@ -10,9 +10,10 @@ use Rattle.outside_io.specs.Events.{Event, after_events, IsFirstPart}
 use Rattle.outside_io.proofs.EventLemmas.{same_of, after_append, did_none, first_none, first_on}
 use Rattle.command_line.specs.Words.{Names, Said, no_names}
 use Rattle.ibm1620_cli.specs.declared.status.Status.{Status}
+use Rattle.ibm1620_cli.specs.declared.answer.Answer.{Answer}
 use Rattle.ibm1620_cli.specs.declared.status.Status.TheVariants.{Usage, HostFault}
 use Rattle.ibm1620_cli.specs.Binding.{bound_if, each_bound, all_bound, BindsNamed, BindsSome}
-use Rattle.ibm1620_cli.specs.Promise.{Job, job_behind, unasked, StopsAt, KeepsPromise, world_with_texts, KeepsFrom}
+use Rattle.ibm1620_cli.specs.Promise.{Job, job_behind, unasked, StopsAt, answer_of, KeepsPromise, world_with_texts, KeepsFrom}
 use Rattle.ibm1620_cli.specs.Report.{report_line}
 use Rattle.ibm1620_cli.specs.Parts.{Reports, Stays}
 use Rattle.ibm1620_cli.specs.Job.{modules_of, bind_event, bind_events, job_promise, usage_promise, DoesSaid, DoesJob, reads, KeepsFiles, KeepsSaid}
@@ -38,9 +39,10 @@ some_first (suc n) [] names = first_none []
 some_first (suc n) (u ∷ us) names = first_on (bind_event u (names u)) (bind_events (take n us) names) (bind_events us names) (some_first n us names)
 
 -- words that are not plain
-pub usage_said : (old new : Seen) (answer : Status) → Reports old new Usage answer → KeepsPromise usage_promise old new answer
-usage_said old new answer reports =
-    promise_report usage_promise old old new Usage (report_line Usage) answer (omega arith) refl refl (record { before = []; is = refl; did = did_none old.world; rest = None; leaves = tt; inputs = unasked (refl, refl) (λ u read. refl) }) reports
+pub usage_said : (old new : Seen) (status : Status) → Reports old new Usage status → KeepsPromise usage_promise old new (answer_of status)
+usage_said old new status reports =
+    promise_report usage_promise old old new Usage (report_line Usage) (answer_of status) (omega arith) refl refl (λ is. refl)
+    (record { before = []; status_is = refl; events_are = refl; did = did_none old.world; leaves = refl; inputs = unasked (refl, refl) (λ u read. refl) refl; refusal = λ other. tt }) reports
 
 pub usage_binds : (old new : Seen) (answer : Status) → Reports old new Usage answer → BindsNamed no_names old.world new.world answer
 usage_binds old new answer reports =
@@ -71,7 +73,7 @@ module _ (said : Said) (old : Seen) where
   binds = bind_events all_units said.names
 
   -- all files are bound, and the job is done
-  pub said_all : (mid new : Seen) (answer : Status) → Goes old mid (all_bound said.names old.world) → DoesJob said mid new answer → DoesSaid said old new answer
+  pub said_all : (mid new : Seen) (answer : Answer) → Goes old mid (all_bound said.names old.world) → DoesJob said mid new answer → DoesSaid said old new answer
   said_all mid new answer goes job =
       let kept : KeepsFrom (job_promise (modules_of said.core) said.command said) (all_bound said.names old.world) mid new answer =
       subst (λ (w : World). KeepsFrom (job_promise (modules_of said.core) said.command said) w mid new answer) goes.world job in
@@ -127,7 +129,7 @@ module _ (said : Said) (old : Seen) where
         once = λ u fed. once_same (old.world.asked u) (new.world.asked u) (bound u);
       }
 
-  some_part : (new : Seen) (some : BindsSome said.names old new) (o : Option Job) → IfSome (option_map (job_behind binds) o) (λ j. StopsAt j old.world new.world)
+  some_part : (new : Seen) (some : BindsSome said.names old new) (o : Option Job) → IfSome (option_map (job_behind binds) o) (λ j. StopsAt j None old.world new.world)
   some_part new some None = tt
   some_part new some (Some j) =
       stops_unasked (job_behind binds j) binds j.events old.world new.world refl (binds_take all_units said.names)
@@ -139,13 +141,13 @@ module _ (said : Said) (old : Seen) where
       })
 
   -- some of them are bound, and then the host failed
-  pub said_some : (new : Seen) → BindsSome said.names old new → DoesSaid said old new HostFault
+  pub said_some : (new : Seen) → BindsSome said.names old new → DoesSaid said old new (answer_of HostFault)
   said_some new some =
       let w : World = all_bound said.names old.world in
       record {
         texts = texts_told w;
         told = are_told w;
-        keeps = inr (inl (record { status = refl; rose = some.rose; part = some_part new some (job_promise (modules_of said.core) said.command said (world_with_texts (texts_told w) w)).job }));
+        keeps = inr (inl (record { status = refl; refusal = refl; rose = some.rose; part = some_part new some (job_promise (modules_of said.core) said.command said (world_with_texts (texts_told w) w)).job }));
       }
 
   pub some_binds : (new : Seen) → BindsSome said.names old new → BindsNamed said.names old.world new.world HostFault

@@ -1,21 +1,24 @@
 -- How the promise of a job is kept: what its parts do, one behind the other.
 use Rattle.std.proofs.Common.{◌≡◌, ℕ, ◌≤◌, ◌+◌, Bool, true, false, ◌||◌, List, [], ◌∷◌, ◌++◌, refl, sym, ◌∙◌, ap, subst, append_assoc, arith, inl, inr}
-use Rattle.std.specs.Prelude.{◌⊎◌, Option, Some, None, IfSome, option_map}
+use Rattle.std.proofs.lemmas.Bool.{true≢false}
+use Rattle.std.specs.Prelude.{◌≢◌, ◌⊎◌, Option, Some, None, IfSome, option_map}
 use Rattle.outside_io.specs.declared.host.Unit as unit
 use Rattle.outside_io.specs.declared.host.Unit.TheVariants as units
 use Rattle.outside_io.specs.World.{World, Asked, Seen, Rose, Goes, same_unit, world_after_put}
 use Rattle.outside_io.proofs.InMemory.{same_unit-eq}
 use Rattle.outside_io.proofs.Worlds.{added_to-nil}
+use Rattle.cpu_step.specs.declared.console.Console.{Console}
 use Rattle.ibm1620_cli.specs.declared.status.Status.{Status}
 use Rattle.ibm1620_cli.specs.declared.status.Status.TheVariants.{HostFault, OutOfMemory}
+use Rattle.ibm1620_cli.specs.declared.answer.Answer.{Answer}
 use Rattle.ibm1620_cli.specs.Report.{report_line}
 use Rattle.outside_io.specs.Whole.{Stops}
 use Rattle.outside_io.specs.Events.{Event, text_events, IsFirstPart, DidAll}
 use Rattle.outside_io.proofs.EventLemmas.{did_on, did_text, first_none, first_on, first_text, FailsWithin}
 use Rattle.ibm1620_cli.specs.Makings.{AreMakings}
 use Rattle.ibm1620_cli.specs.Inputs.{EndsOnce, reads_nothing, reads_feed, reads_both}
-use Rattle.ibm1620_cli.specs.Promise.{Rest, Job, job_leaving, job_ending, job_behind, LeavesInputs, Ends, TakesNone, Unasked, AsksForInputs, StopsAt, texts_alone, Promise, promise_behind, KeepsPromise, is_own, is_usage}
-use Rattle.ibm1620_cli.specs.Parts.{ReportsAs, Reports, Stays}
+use Rattle.ibm1620_cli.specs.Promise.{Job, job_ending, job_behind, LeavesMachine, ShowsRefusal, Ends, TakesNone, Unasked, AsksForInputs, StopsAt, answer_of, texts_alone, Promise, promise_behind, KeepsPromise, is_own, is_usage}
+use Rattle.ibm1620_cli.specs.Parts.{ReportsAs, Reports, IsAlone, Stays}
 use Rattle.ibm1620_cli.proofs.Told.{if_some, all_some}
 use Rattle.ibm1620_cli.proofs.TakenInputs.{takes_before, makings_take, unasked_on, asks_on, asks_behind, stops_unasked}
 use Rattle.ibm1620_cli.proofs.Leaving.{rest_reported}
@@ -111,69 +114,96 @@ pub both_makings : (ds es : List Event) → AreMakings ds → AreMakings es → 
 both_makings [] es a b = b
 both_makings (d ∷ ds) es a b = (a.0, both_makings ds es a.1 b)
 
+-- AN ANSWER OF A STATUS ALONE
+
+pub alone_of : (answer : Answer) (status : Status) → answer ≡ answer_of status → IsAlone answer
+alone_of answer status is = record { console = ap (λ (a : Answer). a.console) is; refusal = ap (λ (a : Answer). a.refusal) is }
+
+pub alone_is : (answer : Answer) (status : Status) → answer.status ≡ status → IsAlone answer → answer ≡ answer_of status
+alone_is answer status is alone = λ i. record { status = is i; console = alone.console i; refusal = alone.refusal i }
+
+-- what is reported is the status of such an answer
+pub reports_of : (mid new : Seen) (said status : Status) (line : List ℕ) (answer : Answer) → answer ≡ answer_of status → ReportsAs mid new said line status → ReportsAs mid new said line answer.status
+reports_of mid new said status line answer is reports = subst (λ (a : Answer). ReportsAs mid new said line a.status) (sym is) reports
+
 -- ENDS
 
 -- a job of which the last line is all that is still to be done
-pub record ReadyJob (j : Job) (status : Status) (line : List ℕ) (old now : World) : Type 0 where
+pub record ReadyJob (j : Job) (status : Status) (line : List ℕ) (answer : Answer) (old now : World) : Type 0 where
   pub before : List Event
-  pub rest : Option Rest
-  pub is : j ≡ job_leaving rest status line before
+  pub status_is : j.status ≡ status
+  pub events_are : j.events ≡ before ++ text_events units.Report line
   pub did : DidAll before old now
-  pub leaves : IfSome rest (λ x. LeavesInputs x now)
-  pub inputs : AsksForInputs rest before old now
+  pub leaves : LeavesMachine j.rest answer.console now
+  pub inputs : AsksForInputs j.rest j.way before answer.console old now
+  pub refusal : answer.status ≢ HostFault → ShowsRefusal j.refusal answer.refusal
 
 -- the host failed within a line that is reported last
-pub stops_reported : (j : Job) (before : List Event) (line : List ℕ) (start : World) (mid new : Seen) → j.events ≡ before ++ text_events units.Report line → DidAll before start mid.world → AsksForInputs j.rest before start mid.world → Stops mid new units.Report line → StopsAt j start new.world
-stops_reported j before line start mid new is did inputs stops = record {
+pub stops_reported : (j : Job) (before : List Event) (line : List ℕ) (shown : Option Console) (start : World) (mid new : Seen) → j.events ≡ before ++ text_events units.Report line → DidAll before start mid.world → AsksForInputs j.rest j.way before shown start mid.world
+    → Stops mid new units.Report line → StopsAt j shown start new.world
+stops_reported j before line shown start mid new is did inputs stops = record {
   did = record {
     done = before ++ text_events units.Report stops.written;
     part = subst (IsFirstPart (before ++ text_events units.Report stops.written)) (sym is) (first_on before (text_events units.Report stops.written) (text_events units.Report line) (first_text units.Report stops.written stops.rest line stops.parts));
     did = did_on before (text_events units.Report stops.written) start mid.world new.world did (did_text units.Report stops.written mid.world new.world stops.goes.world);
   };
-  inputs = asks_on j.rest before (before ++ text_events units.Report stops.written) start mid.world new.world (takes_before before units.Report stops.written) (ap (λ (w : World). w.left) stops.goes.world) (ap (λ (w : World). w.asked) stops.goes.world) inputs;
+  inputs = asks_on j.rest j.way before (before ++ text_events units.Report stops.written) shown start mid.world new.world (takes_before before units.Report stops.written) (ap (λ (w : World). w.left) stops.goes.world) (ap (λ (w : World). w.asked) stops.goes.world) inputs;
 }
 
+-- a status of a job's own is no fault of the host
+pub no_fault : (answer : Answer) (status : Status) → is_own status ≡ true → answer.status ≡ status → answer.status ≢ HostFault
+no_fault answer status own is fault = true≢false (sym own ∙ ap is_own (sym is ∙ fault))
+
 -- the last line is reported
-pub promise_report : (c : Promise) (start mid new : Seen) (status : Status) (line : List ℕ) (answer : Status) → start.faults ≤ mid.faults → is_own status ≡ true → is_usage status ≡ c.usage
-    → IfSome c.job (λ j. ReadyJob j status line start.world mid.world) → ReportsAs mid new status line answer → KeepsPromise c start new answer
-promise_report c start mid new status line answer later own usage_is ready (inl done) = inl (record {
+pub promise_report : (c : Promise) (start mid new : Seen) (status : Status) (line : List ℕ) (answer : Answer) → start.faults ≤ mid.faults → is_own status ≡ true → is_usage status ≡ c.usage
+    → (answer.status ≡ HostFault → answer.refusal ≡ None) → IfSome c.job (λ j. ReadyJob j status line answer start.world mid.world) → ReportsAs mid new status line answer.status → KeepsPromise c start new answer
+promise_report c start mid new status line answer later own usage_is unshown ready (inl done) = inl (record {
   own = ap is_own done.0 ∙ own;
   usage_is = ap is_usage done.0 ∙ usage_is;
-  all = if_some c.job (λ j r. subst (λ (x : Job). Ends x start new answer) (sym r.is) (record {
-    status = done.0;
-    did = did_on r.before (text_events units.Report line) start.world mid.world new.world r.did (did_text units.Report line mid.world new.world done.1.world);
-    rest = rest_reported r.rest mid new line done.1 r.leaves;
-  })) ready;
+  all = if_some c.job (λ j r. record {
+    status = done.0 ∙ sym r.status_is;
+    did = subst (λ (ds : List Event). DidAll ds start.world new.world) (sym r.events_are)
+        (did_on r.before (text_events units.Report line) start.world mid.world new.world r.did (did_text units.Report line mid.world new.world done.1.world));
+    rest = rest_reported j.rest answer.console mid new line done.1 r.leaves;
+    refusal = r.refusal (no_fault answer status own done.0);
+  }) ready;
 })
-promise_report c start mid new status line answer later own usage_is ready (inr stops) = inr (inl (record {
+promise_report c start mid new status line answer later own usage_is unshown ready (inr stops) = inr (inl (record {
   status = stops.0;
+  refusal = unshown stops.0;
   rose = omega (arith, later, stops.1.rose);
-  part = if_some c.job (λ j r. subst (λ (x : Job). StopsAt x start.world new.world) (sym r.is) (stops_reported (job_leaving r.rest status line r.before) r.before line start.world mid new refl r.did r.inputs stops.1)) ready;
+  part = if_some c.job (λ j r. stops_reported j r.before line answer.console start.world mid new r.events_are r.did r.inputs stops.1) ready;
 }))
 
 -- a fault behind a first part, of which nothing is reported
-pub promise_fault : (c : Promise) (start mid new : Seen) (answer : Status) → Rose start.faults mid.faults → IfSome c.job (λ j. StopsAt j start.world mid.world) → Reports mid new HostFault answer → KeepsPromise c start new answer
-promise_fault c start mid new answer rose part reports =
-    let u = unsaid mid new HostFault answer refl reports in
-    inr (inl (record { status = fault_is mid new answer u.answers; rose = omega (arith, rose, u.later); part = subst (λ (w : World). IfSome c.job (λ j. StopsAt j start.world w)) (sym u.world) part }))
+pub promise_fault : (c : Promise) (start mid new : Seen) (answer : Answer) → Rose start.faults mid.faults → IfSome c.job (λ j. StopsAt j answer.console start.world mid.world) → Reports mid new HostFault answer.status → answer.refusal ≡ None → KeepsPromise c start new answer
+promise_fault c start mid new answer rose part reports unshown =
+    let u = unsaid mid new HostFault answer.status refl reports in
+    inr (inl (record {
+      status = fault_is mid new answer.status u.answers;
+      refusal = unshown;
+      rose = omega (arith, rose, u.later);
+      part = subst (λ (w : World). IfSome c.job (λ j. StopsAt j answer.console start.world w)) (sym u.world) part;
+    }))
 
-pub none_part : (j : Job) (w v : World) → DidAll [] w v → Unasked w v → StopsAt j w v
+pub none_part : (j : Job) (w v : World) → DidAll [] w v → Unasked w v → StopsAt j None w v
 none_part j w v did still = stops_unasked j [] j.events w v refl (refl, refl) still (record { done = []; part = first_none []; did = did })
 
 -- a fault within what stands before the last line
-pub promise_cut : (c : Promise) (start new : Seen) (status : Status) (before : List Event) → c.job ≡ Some (job_ending status (report_line status) before) → TakesNone before → Unasked start.world new.world → FailsWithin before start new → KeepsPromise c start new HostFault
+pub promise_cut : (c : Promise) (start new : Seen) (status : Status) (before : List Event) → c.job ≡ Some (job_ending status (report_line status) before) → TakesNone before → Unasked start.world new.world → FailsWithin before start new → KeepsPromise c start new (answer_of HostFault)
 promise_cut c start new status before is none still fails = inr (inl (record {
   status = refl;
+  refusal = refl;
   rose = fails.rose;
-  part = subst (λ (o : Option Job). IfSome o (λ j. StopsAt j start.world new.world)) (sym is)
+  part = subst (λ (o : Option Job). IfSome o (λ j. StopsAt j None start.world new.world)) (sym is)
       (stops_unasked (job_ending status (report_line status) before) before (text_events units.Report (report_line status)) start.world new.world refl none still fails.part);
 }))
 
 -- no memory, before anything is done
-pub promise_memory : (c : Promise) (start mid : Seen) → DidAll [] start.world mid.world → Unasked start.world mid.world → c.made.bindings ≡ [] → c.usage ≡ false → KeepsPromise c start mid OutOfMemory
+pub promise_memory : (c : Promise) (start mid : Seen) → DidAll [] start.world mid.world → Unasked start.world mid.world → c.made.bindings ≡ [] → c.usage ≡ false → KeepsPromise c start mid (answer_of OutOfMemory)
 promise_memory c start mid did still unbound plain = inr (inr (record {
   words = plain;
-  status = refl;
+  plain = refl;
   done = [];
   did = subst (λ (bs : List Event). DidAll (bs ++ []) start.world mid.world) (sym unbound) did;
   makings = tt;
@@ -181,44 +211,49 @@ promise_memory c start mid did still unbound plain = inr (inr (record {
   unasked = still;
 }))
 
-pub promise_lacking : (c : Promise) (start mid new : Seen) (answer : Status) → DidAll [] start.world mid.world → Unasked start.world mid.world → c.made.bindings ≡ [] → start.faults ≤ mid.faults → c.usage ≡ false → Reports mid new OutOfMemory answer → KeepsPromise c start new answer
-promise_lacking c start mid new answer did still unbound later plain reports = by_answer (unsaid mid new OutOfMemory answer refl reports)
+pub promise_lacking : (c : Promise) (start mid new : Seen) (answer : Answer) → DidAll [] start.world mid.world → Unasked start.world mid.world → c.made.bindings ≡ [] → start.faults ≤ mid.faults → c.usage ≡ false → Reports mid new OutOfMemory answer.status → IsAlone answer → KeepsPromise c start new answer
+promise_lacking c start mid new answer did still unbound later plain reports alone = by_answer (unsaid mid new OutOfMemory answer.status refl reports)
   where
-    by_answer : Unsaid mid new OutOfMemory answer → KeepsPromise c start new answer
+    by_answer : Unsaid mid new OutOfMemory answer.status → KeepsPromise c start new answer
     by_answer u =
         let here : DidAll [] start.world new.world = subst (λ (w : World). DidAll [] start.world w) (sym u.world) did in
         let still_here : Unasked start.world new.world = subst (λ (w : World). Unasked start.world w) (sym u.world) still in
         elim u.answers [
-          | inl is ↦ rw is (promise_memory c start new here still_here unbound plain)
-          | inr fault ↦ inr (inl (record { status = fault.0; rose = omega (arith, later, fault.1); part = all_some c.job (λ j. none_part j start.world new.world here still_here) }))
+          | inl is ↦ subst (λ (a : Answer). KeepsPromise c start new a) (sym (alone_is answer OutOfMemory is alone)) (promise_memory c start new here still_here unbound plain)
+          | inr fault ↦ inr (inl (record {
+            status = fault.0;
+            refusal = alone.refusal;
+            rose = omega (arith, later, fault.1);
+            part = all_some c.job (λ j. subst (λ (o : Option Console). StopsAt j o start.world new.world) (sym alone.console) (none_part j start.world new.world here still_here));
+          }))
         ]
 
 -- BEHIND WHAT WAS DONE BEFORE
 
 module _ (before : List Event) (old mid new : Seen) (did : DidAll before old.world mid.world) where
-  pub own_on : (o : Option Job) (answer : Status) → IfSome o (λ j. Ends j mid new answer) → IfSome (option_map (job_behind before) o) (λ j. Ends j old new answer)
+  pub own_on : (o : Option Job) (answer : Answer) → IfSome o (λ j. Ends j mid new answer) → IfSome (option_map (job_behind before) o) (λ j. Ends j old new answer)
   own_on None answer all = tt
-  own_on (Some j) answer all = record { status = all.status; did = did_on before j.events old.world mid.world new.world did all.did; rest = all.rest }
+  own_on (Some j) answer all = record { status = all.status; did = did_on before j.events old.world mid.world new.world did all.did; rest = all.rest; refusal = all.refusal }
 
   -- which takes no card and no line, and no input was asked
-  pub part_on : TakesNone before → Unasked old.world mid.world → (o : Option Job) → IfSome o (λ j. StopsAt j mid.world new.world) → IfSome (option_map (job_behind before) o) (λ j. StopsAt j old.world new.world)
-  part_on none still None part = tt
-  part_on none still (Some j) part = record {
+  pub part_on : TakesNone before → Unasked old.world mid.world → (o : Option Job) (shown : Option Console) → IfSome o (λ j. StopsAt j shown mid.world new.world) → IfSome (option_map (job_behind before) o) (λ j. StopsAt j shown old.world new.world)
+  part_on none still None shown part = tt
+  part_on none still (Some j) shown part = record {
     did = record {
       done = before ++ part.did.done;
       part = first_on before part.did.done j.events part.did.part;
       did = did_on before part.did.done old.world mid.world new.world did part.did.did;
     };
-    inputs = asks_behind j.rest before part.did.done old.world mid.world new.world none still part.inputs;
+    inputs = asks_behind j.rest j.way before part.did.done shown old.world mid.world new.world none still part.inputs;
   }
 
 -- behind bindings
-pub promise_bound : (binds : List Event) (c : Promise) (old mid new : Seen) → old.faults ≤ mid.faults → DidAll binds old.world mid.world → TakesNone binds → Unasked old.world mid.world → (answer : Status) → KeepsPromise c mid new answer → KeepsPromise (promise_behind binds c) old new answer
+pub promise_bound : (binds : List Event) (c : Promise) (old mid new : Seen) → old.faults ≤ mid.faults → DidAll binds old.world mid.world → TakesNone binds → Unasked old.world mid.world → (answer : Answer) → KeepsPromise c mid new answer → KeepsPromise (promise_behind binds c) old new answer
 promise_bound binds c old mid new later did none still answer (inl own) = inl (record { own = own.own; usage_is = own.usage_is; all = own_on binds old mid new did c.job answer own.all })
-promise_bound binds c old mid new later did none still answer (inr (inl fault)) = inr (inl (record { status = fault.status; rose = omega (arith, later, fault.rose); part = part_on binds old mid new did none still c.job fault.part }))
+promise_bound binds c old mid new later did none still answer (inr (inl fault)) = inr (inl (record { status = fault.status; refusal = fault.refusal; rose = omega (arith, later, fault.rose); part = part_on binds old mid new did none still c.job answer.console fault.part }))
 promise_bound binds c old mid new later did none still answer (inr (inr lacks)) = inr (inr (record {
   words = lacks.words;
-  status = lacks.status;
+  plain = lacks.plain;
   done = lacks.done;
   did = subst (λ (ds : List Event). DidAll ds old.world new.world) (sym (append_assoc binds c.made.bindings lacks.done)) (did_on binds (c.made.bindings ++ lacks.done) old.world mid.world new.world did lacks.did);
   makings = lacks.makings;
@@ -227,13 +262,13 @@ promise_bound binds c old mid new later did none still answer (inr (inr lacks)) 
 }))
 
 -- behind texts that were made
-pub promise_made : (texts : List Event) → AreMakings texts → (j : Option Job) (more : List Event) (old mid new : Seen) → old.faults ≤ mid.faults → DidAll texts old.world mid.world → Unasked old.world mid.world → (answer : Status)
+pub promise_made : (texts : List Event) → AreMakings texts → (j : Option Job) (more : List Event) (old mid new : Seen) → old.faults ≤ mid.faults → DidAll texts old.world mid.world → Unasked old.world mid.world → (answer : Answer)
     → KeepsPromise (record { job = j; made = texts_alone (Some more); usage = false }) mid new answer → KeepsPromise (record { job = option_map (job_behind texts) j; made = texts_alone (Some (texts ++ more)); usage = false }) old new answer
 promise_made texts makings j more old mid new later did still answer (inl own) = inl (record { own = own.own; usage_is = own.usage_is; all = own_on texts old mid new did j answer own.all })
-promise_made texts makings j more old mid new later did still answer (inr (inl fault)) = inr (inl (record { status = fault.status; rose = omega (arith, later, fault.rose); part = part_on texts old mid new did (makings_take texts makings) still j fault.part }))
+promise_made texts makings j more old mid new later did still answer (inr (inl fault)) = inr (inl (record { status = fault.status; refusal = fault.refusal; rose = omega (arith, later, fault.rose); part = part_on texts old mid new did (makings_take texts makings) still j answer.console fault.part }))
 promise_made texts makings j more old mid new later did still answer (inr (inr lacks)) = inr (inr (record {
   words = lacks.words;
-  status = lacks.status;
+  plain = lacks.plain;
   done = texts ++ lacks.done;
   did = did_on texts lacks.done old.world mid.world new.world did lacks.did;
   makings = both_makings texts lacks.done makings lacks.makings;

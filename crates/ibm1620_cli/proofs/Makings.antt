@@ -1,7 +1,7 @@
 -- The object deck, the image and the listing of a source are written, and that is reported.
 use Rattle.std.proofs.Common.{Bool, ◌≡◌, ℕ, List, [], ◌∷◌, ◌++◌, length, refl, sym, ◌∙◌, ap, inl, inr}
 use Rattle.std.proofs.lemmas.List.{length-map}
-use Rattle.std.specs.Prelude.{◌⊎◌, None}
+use Rattle.std.specs.Prelude.{◌⊎◌}
 use Rattle.outside_io.specs.declared.host.Unit as unit
 use Rattle.outside_io.specs.declared.host.Unit.TheVariants as units
 use Rattle.outside_io.specs.declared.whole.Sent.{Sent}
@@ -24,7 +24,7 @@ use Rattle.ibm1620_cli.specs.declared.status.Status.TheVariants as statuses
 use Rattle.ibm1620_cli.specs.Report.{report_line}
 use Rattle.ibm1620_cli.specs.Makings.{AreMakings}
 use Rattle.ibm1620_cli.specs.Inputs.{reads_nothing}
-use Rattle.ibm1620_cli.specs.Promise.{TakesNone, unasked, KeepsPromise, nothing_done}
+use Rattle.ibm1620_cli.specs.Promise.{answer_of, TakesNone, unasked, KeepsPromise, nothing_done}
 use Rattle.ibm1620_cli.specs.Program.{deck_of}
 use Rattle.ibm1620_cli.specs.Source.{assembled_source, program_of, deck_text, SourceTexts, made_of, made_events}
 use Rattle.ibm1620_cli.specs.AssembleJob.{assembled_status, written_promise}
@@ -109,20 +109,21 @@ module _ (m : ℕ) (form : DeckForm) (source : List ℕ) where
   status = assembled_status m form source
 
   -- all are written, and that is reported
-  pub promise_written : (start mid new : Seen) (answer : Status) → Goes start mid (after_events start.world (made_events (made_of m form source))) → Reports mid new status answer → KeepsPromise (written_promise m form source start.world) start new answer
-  promise_written start mid new answer goes reports =
-      promise_report (written_promise m form source start.world) start mid new status (report_line status) answer goes.later refl refl
+  pub promise_written : (start mid new : Seen) (answered : Status) → Goes start mid (after_events start.world (made_events (made_of m form source))) → Reports mid new status answered → KeepsPromise (written_promise m form source start.world) start new (answer_of answered)
+  promise_written start mid new answered goes reports =
+      promise_report (written_promise m form source start.world) start mid new status (report_line status) (answer_of answered) goes.later refl refl (λ is. refl)
       (record {
         before = made_events (made_of m form source);
-        is = refl;
+        status_is = refl;
+        events_are = refl;
         did = same_of mid.world (after_events start.world (made_events (made_of m form source))) goes.world;
-        rest = None;
-        leaves = tt;
-        inputs = unasked (made_take (made_of m form source)) (goes_unasked (made_events (made_of m form source)) start mid goes);
+        leaves = refl;
+        inputs = unasked (made_take (made_of m form source)) (goes_unasked (made_events (made_of m form source)) start mid goes) refl;
+        refusal = λ other. tt;
       }) reports
 
   -- nothing was written, or not all
-  pub promise_unwritten : (start new : Seen) (s : Status) → ((s ≡ OutOfMemory) × (new ≡ start)) ⊎ ((s ≡ HostFault) × StopsWithin (made_events (made_of m form source)) start new) → KeepsPromise (written_promise m form source start.world) start new s
+  pub promise_unwritten : (start new : Seen) (s : Status) → ((s ≡ OutOfMemory) × (new ≡ start)) ⊎ ((s ≡ HostFault) × StopsWithin (made_events (made_of m form source)) start new) → KeepsPromise (written_promise m form source start.world) start new (answer_of s)
   promise_unwritten start new s (inl lacks) = rw (lacks.0, lacks.1) (promise_memory (written_promise m form source start.world) start start (did_none start.world) (λ u read. refl) refl refl)
   promise_unwritten start new s (inr stops) =
       let texts : List Event = made_events (made_of m form source) in

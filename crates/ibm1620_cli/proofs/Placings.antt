@@ -19,7 +19,7 @@ use Rattle.ibm1620_cli.specs.declared.status.Status.TheVariants as statuses
 use Rattle.ibm1620_cli.specs.declared.status.Status.TheVariants.{HostFault}
 use Rattle.ibm1620_cli.specs.Report.{report_line}
 use Rattle.ibm1620_cli.specs.Inputs.{reads_pack}
-use Rattle.ibm1620_cli.specs.Promise.{TakesNone, unasked, KeepsPromise, nothing_done}
+use Rattle.ibm1620_cli.specs.Promise.{answer_of, TakesNone, unasked, KeepsPromise, nothing_done}
 use Rattle.ibm1620_cli.specs.Source.{deck_text}
 use Rattle.ibm1620_cli.specs.Parts.{Reports, StopsWithin, EventsOccur, Stays}
 use Rattle.ibm1620_cli.specs.DiskJob.{placing_status, Placing, disk_placing, placing_with, sector_events, placing_events, placing_promise}
@@ -96,19 +96,20 @@ module _ (m : ℕ) (source : List ℕ) (start : Seen) where
   status = placing_status m source
 
   -- all are written, and that is reported
-  pub promise_placed : (mid new : Seen) (answer : Status) → Goes start mid (after_events start.world (placing_events p)) → Reports mid new status answer → KeepsPromise (placing_promise m source start.world) start new answer
-  promise_placed mid new answer goes reports =
-      promise_report (placing_promise m source start.world) start mid new status (report_line status) answer goes.later refl refl
+  pub promise_placed : (mid new : Seen) (answered : Status) → Goes start mid (after_events start.world (placing_events p)) → Reports mid new status answered → KeepsPromise (placing_promise m source start.world) start new (answer_of answered)
+  promise_placed mid new answered goes reports =
+      promise_report (placing_promise m source start.world) start mid new status (report_line status) (answer_of answered) goes.later refl refl (λ is. refl)
       (record {
         before = placing_events p;
-        is = refl;
+        status_is = refl;
+        events_are = refl;
         did = same_of mid.world (after_events start.world (placing_events p)) goes.world;
-        rest = None;
-        leaves = tt;
-        inputs = unasked (placing_takes p) (goes_unasked (placing_events p) start mid goes);
+        leaves = refl;
+        inputs = unasked (placing_takes p) (goes_unasked (placing_events p) start mid goes) refl;
+        refusal = λ other. tt;
       }) reports
 
-  pub promise_placed_stops : (new : Seen) → StopsWithin (placing_events p) start new → KeepsPromise (placing_promise m source start.world) start new HostFault
+  pub promise_placed_stops : (new : Seen) → StopsWithin (placing_events p) start new → KeepsPromise (placing_promise m source start.world) start new (answer_of HostFault)
   promise_placed_stops new stops = promise_cut (placing_promise m source start.world) start new status (placing_events p) refl (placing_takes p) (stops_asked (placing_events p) start new stops) (stops_fails (placing_events p) start new stops)
 
 pub placing_follows : (m : ℕ) (source : List ℕ) → FollowsSource m nothing_done (placing_promise m) source

@@ -1,14 +1,14 @@
 -- The promise of a program: a machine that is powered on over its deck, loads it, and takes the turns.
 use Rattle.std.proofs.Common.{◌≡◌, ℕ, List, [], length, map, refl, sym, ◌∙◌, ap, subst, arith}
 use Rattle.std.proofs.lemmas.List.{length-map}
-use Rattle.std.specs.Prelude.{Option, Some, None, option_map}
+use Rattle.std.specs.Prelude.{Option, Some, None, IfSome, option_map}
 use Rattle.outside_io.specs.declared.host.Unit.TheVariants as units
 use Rattle.outside_io.specs.World.{World, Seen}
 use Rattle.outside_io.proofs.EventLemmas.{did_none}
 use Rattle.card_code.specs.declared.Card.{Card}
-use Rattle.card_code.specs.Entries.{Entry, hopper_of, entries_of_unit}
+use Rattle.card_code.specs.Entries.{Entry, Text, hopper_of, entries_of_unit}
 use Rattle.card_unit.specs.declared.hopper.Hopper.{Hopper}
-use Rattle.card_unit.specs.Hopper.{hopper_left, own_cards, cards_and_data, IsOneAhead}
+use Rattle.card_unit.specs.Hopper.{hopper_left, deck_left, own_cards, cards_and_data, Begins}
 use Rattle.cpu_step.specs.declared.machine.Machine.{Machine}
 use Rattle.cpu_step.specs.Load.{state_at_power_on, load_key}
 use Rattle.cpu_step.specs.Machine.{state_of, over_all, IsPowered}
@@ -18,12 +18,13 @@ use Rattle.operator_script.specs.Scripts.{lines_left}
 use Rattle.deck_punch.specs.declared.form.DeckForm.{DeckForm}
 use Rattle.loader_cards.specs.ObjectDeck.{steps_in}
 use Rattle.card_columns.specs.Types.{card_bytes}
-use Rattle.ibm1620_cli.specs.declared.status.Status.{Status}
+use Rattle.ibm1620_cli.specs.declared.answer.Answer.{Answer}
 use Rattle.ibm1620_cli.specs.Promise.{KeepsPromise}
-use Rattle.ibm1620_cli.specs.Turns.{Feed, feed_of, feed_at, lines_of_feed, state_over_feed, first_over, LoadedMachine, turns_promise}
+use Rattle.ibm1620_cli.specs.Turns.{Feed, feed_of, feed_at, lines_of_feed, state_over_feed, state_over, first_over, LoadedMachine, turns_promise}
 use Rattle.ibm1620_cli.specs.Program.{Program, Fits, deck_of, steps_of_deck, cards_before, set_up_at_power_on, set_up_after_load, loaded_by, program_promise, KeepsProgramPromise}
 use Rattle.ibm1620_cli.specs.Parts.{Executes}
 use Rattle.ibm1620_cli.proofs.SetUps.{set_up_after_steps, machine_after_steps}
+use Rattle.ibm1620_cli.proofs.Told.{all_some}
 use Rattle.ibm1620_cli.proofs.Entering.{over_powered}
 use Rattle.ibm1620_cli.proofs.StepEvents.{program_taken}
 use Rattle.ibm1620_cli.proofs.Stepping.{last_stands}
@@ -46,6 +47,10 @@ powered_state m cards hopper w holds machine is =
     ∙ ap (λ (o : Option (List Entry)). over_all (λ es ks pack. state_at_power_on m es ks (w.written units.Punched) (w.written units.Typed) pack) o (option_map (entries_of_unit units.Keys 0) (w.left units.Keys)) w.sectors) (holds w)
     ∙ fed m cards (w.left units.Data) (w.left units.Keys) w.sectors (w.written units.Punched) (w.written units.Typed)
 
+-- the entries of its reader's pile are these cards
+pub pile_told : (cards : List (List ℕ)) (hopper : Hopper) (w : World) → ((v : World) → deck_left hopper v ≡ Some (map Text cards)) → IfSome (feed_at w) (λ feed. IfSome (deck_left hopper w) (λ left. map Text cards ≡ left))
+pile_told cards hopper w deck = all_some (feed_at w) (λ feed. subst (λ (o : Option (List Entry)). IfSome o (λ left. map Text cards ≡ left)) (sym (deck w)) refl)
+
 module _ (p : Program) (fits : Fits p) where
   abbrev k : ℕ
   k = steps_of_deck p
@@ -53,12 +58,15 @@ module _ (p : Program) (fits : Fits p) where
   -- over the texts of a world, and under a script
   module _ (w : World) (lines : List ScriptLine) where
     abbrev loaded : Feed → LoadedMachine
-    loaded feed = loaded_by (deck_of p) feed (first_over w (set_up_after_load p feed) lines)
+    loaded feed = loaded_by p feed (state_over w (set_up_at_power_on p feed)) (first_over w (set_up_after_load p feed) lines)
 
     -- behind its deck's steps, which take its cards, the program is loaded
-    is_loaded : (λ (feed : Feed). machine_after_steps p.modules k w lines (cards_before (deck_of p) feed) feed) ≡ loaded
+    is_loaded : (λ (feed : Feed). machine_after_steps p.modules k w lines (map Text (deck_of p)) (cards_before (deck_of p) feed) feed) ≡ loaded
     unfolding set_up_after_steps set_up_after_load
     is_loaded = λ i feed. record {
+      powered = state_over w (set_up_at_power_on p feed);
+      steps = k;
+      pile = map Text (deck_of p);
       cards = cards_before (deck_of p) feed;
       keys = lines_of_feed feed;
       taken = program_taken p feed (w.written units.Punched) (w.written units.Typed) fits i;
@@ -66,18 +74,20 @@ module _ (p : Program) (fits : Fits p) where
     }
 
     pub program_loaded : (feed : Feed) → IsLoaded (loaded feed)
-    program_loaded feed = subst (λ (l : Feed → LoadedMachine). IsLoaded (l feed)) is_loaded (steps_loaded p.modules k w lines (cards_before (deck_of p) feed) feed)
+    program_loaded feed = subst (λ (l : Feed → LoadedMachine). IsLoaded (l feed)) is_loaded (steps_loaded p.modules k w lines (map Text (deck_of p)) (cards_before (deck_of p) feed) feed)
 
-  promise_program : (limit : ℕ) (hopper : Hopper) (script : Script) (start new : Seen) (answer : Status)
-      → ((w : World) → hopper_left hopper w ≡ cards_and_data (deck_of p) w) → own_cards hopper ≡ Some (deck_of p) → ((w : World) → IsOneAhead hopper w) → Executes p.modules k limit hopper script start new answer
+  promise_program : (limit : ℕ) (hopper : Hopper) (script : Script) (start new : Seen) (answer : Answer)
+      → ((w : World) → hopper_left hopper w ≡ cards_and_data (deck_of p) w) → ((w : World) → deck_left hopper w ≡ Some (map Text (deck_of p))) → own_cards hopper ≡ Some (deck_of p) → Begins hopper → Executes p.modules k limit hopper script start new answer
       → KeepsPromise (program_promise [] limit (lines_left script) p start.world) start new answer
-  promise_program limit hopper script start new answer holds own ahead executes =
+  promise_program limit hopper script start new answer holds deck own begins executes =
       subst (λ (l : Feed → LoadedMachine). KeepsPromise (turns_promise (Some (deck_of p)) [] limit l (feed_at start.world)) start new answer) (is_loaded start.world (lines_left script))
-      (promise_executes p.modules k limit (Some (deck_of p)) [] (cards_before (deck_of p)) (λ feed. feed) (feed_at start.world) hopper script start start (powered_state p.modules (deck_of p) hopper start.world holds) (omega arith) (did_none start.world) (λ u read. refl) tt own ahead new answer executes)
+      (promise_executes p.modules k limit (Some (deck_of p)) [] (λ feed. map Text (deck_of p)) (cards_before (deck_of p)) (λ feed. feed) (feed_at start.world) hopper script start start (powered_state p.modules (deck_of p) hopper start.world holds) (omega arith) (did_none start.world) (λ u read. refl) tt own begins
+      (pile_told (deck_of p) hopper start.world deck) new answer executes)
 
-pub keeps_program_promise : (m : ℕ) (form : DeckForm) (limit steps : ℕ) (cards : List Card) (hopper : Hopper) (script : Script) (start new : Seen) (answer : Status) → ((w : World) → hopper_left hopper w ≡ cards_and_data (map card_bytes cards) w) → own_cards hopper ≡ Some (map card_bytes cards)
-    → ((w : World) → IsOneAhead hopper w) → steps ≡ steps_in form (length cards) → Executes m steps limit hopper script start new answer → KeepsProgramPromise m form limit (map card_bytes cards) (lines_left script) start new answer
-keeps_program_promise m form limit steps cards hopper script start new answer holds own ahead steps_are executes p fits sized same is =
-    promise_program p fits limit hopper script start new answer (λ w. holds w ∙ ap (λ (texts : List (List ℕ)). cards_and_data texts w) is) (own ∙ ap (λ (texts : List (List ℕ)). Some texts) is) ahead
+pub keeps_program_promise : (m : ℕ) (form : DeckForm) (limit steps : ℕ) (cards : List Card) (hopper : Hopper) (script : Script) (start new : Seen) (answer : Answer) → ((w : World) → hopper_left hopper w ≡ cards_and_data (map card_bytes cards) w)
+    → ((w : World) → deck_left hopper w ≡ Some (map Text (map card_bytes cards))) → own_cards hopper ≡ Some (map card_bytes cards)
+    → Begins hopper → steps ≡ steps_in form (length cards) → Executes m steps limit hopper script start new answer → KeepsProgramPromise m form limit (map card_bytes cards) (lines_left script) start new answer
+keeps_program_promise m form limit steps cards hopper script start new answer holds deck own begins steps_are executes p fits sized same is =
+    promise_program p fits limit hopper script start new answer (λ w. holds w ∙ ap (λ (texts : List (List ℕ)). cards_and_data texts w) is) (λ w. deck w ∙ ap (λ (texts : List (List ℕ)). Some (map Text texts)) is) (own ∙ ap (λ (texts : List (List ℕ)). Some texts) is) begins
     (subst (λ (n : ℕ). Executes p.modules n limit hopper script start new answer) (steps_are ∙ ap (steps_in form) (sym (length-map cards card_bytes) ∙ ap length is) ∙ ap (λ (f : DeckForm). steps_in f (length (deck_of p))) (sym same))
     (subst (λ (k : ℕ). Executes k steps limit hopper script start new answer) (sym sized) executes))

@@ -13,6 +13,7 @@ use Rattle.outside_io.specs.Events.{Event, lines_in}
 use Rattle.card_code.specs.Entries.{Entry, Text, Long, entry, entries, entries_of_unit}
 use Rattle.card_code.specs.Reader.{unit_of, lines_handed_out, bytes_held, has_end, AsksInTurn}
 use Rattle.typewriter.specs.declared.keyboard.Keyboard.{Keyboard}
+use Rattle.cpu_step.specs.declared.console.Console.{Console}
 use Rattle.typewriter.specs.Keys.{keys_left}
 use Rattle.ibm1620_cli.specs.Promise.{Rest, Job, AsksForInputs, unasked, asked}
 use Rattle.ibm1620_cli.specs.Prompts.{IsTypedLine, lines_before, HasReadLine, PromptLaw}
@@ -218,11 +219,11 @@ module _ (j : Job) (old new : World) (read : HasReadLine j old new) where
       holds (drop n read.earlier) read.last (unit_of k.lines) (lines_handed_out k.lines) (bytes_held k.lines) read.first_left read.more_left es
       (are ∙ ap (drop n) (read.keys ∙ first.are) ∙ drop_earlier n read.earlier read.last es low) (count units.Keys first.from left)
 
-  taken : (done : List Event) → AsksForInputs j.rest done old new → length read.earlier < lines_in done
-  taken done (unasked none same) =
+  taken : (done : List Event) (shown : Option Console) → AsksForInputs j.rest j.way done shown old new → length read.earlier < lines_in done
+  taken done shown (unasked none same dark) =
       let none_read : length read.last + 1 ≡ 0 = ap last_of (sym read.asked ∙ same units.Keys refl ∙ read.unasked) in
       absurd (omega (arith, none_read))
-  taken done (asked r is has) = elim (cases_lt (length read.earlier) (lines_in done)) [
+  taken done shown (asked r is s stands has) = elim (cases_lt (length read.earlier) (lines_in done)) [
     | inl below ↦ below
     | inr over ↦
         let both : Some r ≡ Some read.rest = sym is ∙ read.has_machine in
@@ -230,9 +231,9 @@ module _ (j : Job) (old new : World) (read : HasReadLine j old new) where
         let k : Keyboard = has.keyboard in
         let held = untaken k (lines_in done) over (has.lines_are ∙ ap (λ (x : Rest). Some (drop (lines_in done) x.keys)) same) in
         let here : new.asked (unit_of k.lines) ≡ Some (record { last = length read.last + 1; ends = read.ends }) = ap (λ (u : unit.Unit). new.asked u) k.unit_is ∙ read.asked in
-        let in_turn : AsksInTurn (bytes_held k.lines) (record { last = length read.last + 1; ends = read.ends }) = subst (λ (o : Option Asked). IfSome o (AsksInTurn (bytes_held k.lines))) here has.turn in
+        let in_turn : AsksInTurn (bytes_held k.lines) (record { last = length read.last + 1; ends = read.ends }) = subst (λ (o : Option Asked). IfSome o (AsksInTurn (bytes_held k.lines))) here has.typed.by.turn in
         absurd (not_in_turn (bytes_held k.lines) read.last read.ends held in_turn)
   ]
 
 pub prompt : PromptLaw
-prompt j old new read stops = taken j old new read stops.did.done stops.inputs
+prompt j old new read shown stops = taken j old new read stops.did.done shown stops.inputs

@@ -12,12 +12,14 @@ use Rattle.outside_io.proofs.EventLemmas.{did_on, did_taken}
 use Rattle.outside_io.proofs.InMemory.{same_unit-eq}
 use Rattle.cpu_step.specs.Machine.{is_read}
 use Rattle.ibm1620_cli.specs.declared.status.Status.{Status}
+use Rattle.ibm1620_cli.specs.declared.answer.Answer.{Answer}
+use Rattle.cpu_step.specs.declared.console.Console.{Console}
 use Rattle.ibm1620_cli.specs.declared.status.Status.TheVariants.{TooLong}
 use Rattle.ibm1620_cli.specs.Reading.{read_within, text_read}
 use Rattle.ibm1620_cli.specs.Inputs.{EndsOnce, reads_both}
 use Rattle.ibm1620_cli.specs.Report.{report_line}
-use Rattle.ibm1620_cli.specs.Promise.{Job, Unasked, unasked, texts_alone, Promise, KeepsPromise, job_read, read_promise, Texts, with_texts, world_with_texts, AreTold, KeepsFrom, KeepsJob}
-use Rattle.ibm1620_cli.specs.Parts.{Reports, TakesFrom, Loses, Unread, refused, failed, lacking, Stays}
+use Rattle.ibm1620_cli.specs.Promise.{Job, ShowsRefusal, Unasked, unasked, StopsAt, texts_alone, Promise, KeepsPromise, job_read, read_promise, Texts, with_texts, world_with_texts, AreTold, KeepsFrom, KeepsJob}
+use Rattle.ibm1620_cli.specs.Parts.{Reports, IsAlone, TakesFrom, Loses, Unread, refused, failed, lacking, Stays}
 use Rattle.ibm1620_cli.proofs.Told.{if_some, all_some}
 use Rattle.ibm1620_cli.proofs.TakenInputs.{unasked_on, asks_behind}
 use Rattle.ibm1620_cli.proofs.Kept.{ReadyJob, once_same, once_first, report_stays, stays_both, stays_on, stays_less, promise_report, promise_fault, promise_lacking, none_part}
@@ -39,7 +41,7 @@ pub are_told : (w : World) → AreTold (texts_told w) w
 are_told w = record { script = told_or (w.left units.Script) []; commands = told_or (w.left units.Commands) []; source = told_or (w.left units.Source) [] }
 
 -- a promise that doesn't stand on these texts
-pub keeps_told : (promise : World → Promise) (w : World) (old new : Seen) (answer : Status) → promise w ≡ promise (world_with_texts (texts_told w) w) → KeepsPromise (promise w) old new answer → KeepsFrom promise w old new answer
+pub keeps_told : (promise : World → Promise) (w : World) (old new : Seen) (answer : Answer) → promise w ≡ promise (world_with_texts (texts_told w) w) → KeepsPromise (promise w) old new answer → KeepsFrom promise w old new answer
 keeps_told promise w old new answer same kept = record { texts = texts_told w; told = are_told w; keeps = subst (λ (c : Promise). KeepsPromise c old new answer) same kept }
 
 -- A UNIT IS READ: what was read of it, in the texts that are told
@@ -113,22 +115,31 @@ module _ {A : Type 0} (u : unit.Unit) (other : is_read u ≡ false) (read : List
     abbrev known : List ℕ
     known = unwrap_or (start.world.left u) []
 
-    pub promise_unread : (s answer : Status) → Unread u read start later s → Reports later new s answer → KeepsJob (read_promise u read made next) start new answer
-    promise_unread s answer (refused takes own plain) reports = record {
+    pub promise_unread : (s : Status) (answer : Answer) → Unread u read start later s → Reports later new s answer.status → IsAlone answer → KeepsJob (read_promise u read made next) start new answer
+    promise_unread s answer (refused takes own plain) reports alone = record {
       texts = t.with takes.text;
       told = t.told takes.text takes.told;
-      keeps = promise_report (promise takes.text) start later new s (report_line s) answer takes.goes.later own plain
-          (told_job (λ j. ReadyJob j s (report_line s) start.world later.world) read (Err s) (unread_by (given takes.text)) ((given takes.text).left u) takes.text (t.reads takes.text) takes.says (record { before = []; rest = None; is = refl; did = did_taken u takes.gone start.world later.world takes.goes.world; leaves = tt; inputs = unasked (refl, refl) (still takes.gone takes.goes) })) reports;
+      keeps = promise_report (promise takes.text) start later new s (report_line s) answer takes.goes.later own plain (λ is. alone.refusal)
+          (told_job (λ j. ReadyJob j s (report_line s) answer start.world later.world) read (Err s) (unread_by (given takes.text)) ((given takes.text).left u) takes.text (t.reads takes.text) takes.says
+          (record {
+            before = [];
+            status_is = refl;
+            events_are = refl;
+            did = did_taken u takes.gone start.world later.world takes.goes.world;
+            leaves = alone.console;
+            inputs = unasked (refl, refl) (still takes.gone takes.goes) alone.console;
+            refusal = λ other. subst (ShowsRefusal None) (sym alone.refusal) tt;
+          })) reports;
     }
-    promise_unread s answer (failed loses is rose) reports = record {
+    promise_unread s answer (failed loses is rose) reports alone = record {
       texts = t.with known;
       told = t.told known (told_or (start.world.left u) []);
-      keeps = promise_fault (promise known) start later new answer rose (all_some (promise known).job (λ j. none_part j start.world later.world (did_taken u loses.gone start.world later.world loses.goes.world) (still loses.gone loses.goes))) (subst (λ (x : Status). Reports later new x answer) is reports);
+      keeps = promise_fault (promise known) start later new answer rose (all_some (promise known).job (λ j. subst (λ (shown : Option Console). StopsAt j shown start.world later.world) (sym alone.console) (none_part j start.world later.world (did_taken u loses.gone start.world later.world loses.goes.world) (still loses.gone loses.goes)))) (subst (λ (x : Status). Reports later new x answer.status) is reports) alone.refusal;
     }
-    promise_unread s answer (lacking loses is) reports = record {
+    promise_unread s answer (lacking loses is) reports alone = record {
       texts = t.with known;
       told = t.told known (told_or (start.world.left u) []);
-      keeps = promise_lacking (promise known) start later new answer (did_taken u loses.gone start.world later.world loses.goes.world) (still loses.gone loses.goes) refl loses.goes.later refl (subst (λ (x : Status). Reports later new x answer) is reports);
+      keeps = promise_lacking (promise known) start later new answer (did_taken u loses.gone start.world later.world loses.goes.world) (still loses.gone loses.goes) refl loses.goes.later refl (subst (λ (x : Status). Reports later new x answer.status) is reports) alone;
     }
 
   -- something was read, and the rest was done; what is promised behind the reading is promised as well from before it
@@ -140,23 +151,24 @@ module _ {A : Type 0} (u : unit.Unit) (other : is_read u ≡ false) (read : List
     before : (ds : List Event) → DidAll ds later.world new.world → DidAll ds start.world new.world
     before ds did = did_on [] ds start.world later.world new.world (did_taken u takes.gone start.world later.world takes.goes.world) did
 
-    pub promise_read : (answer : Status) → KeepsPromise (next what w) later new answer → KeepsPromise (read_promise u read made next w) start new answer
+    pub promise_read : (answer : Answer) → KeepsPromise (next what w) later new answer → KeepsPromise (read_promise u read made next w) start new answer
     promise_read answer (inl own) = inl (record {
       own = own.own;
       usage_is = own.usage_is ∙ plain;
-      all = told_job _ read (Ok what) read_by (w.left u) takes.text reads takes.says (if_some (next what w).job (λ j a. record { status = a.status; did = before j.events a.did; rest = a.rest }) own.all);
+      all = told_job _ read (Ok what) read_by (w.left u) takes.text reads takes.says (if_some (next what w).job (λ j a. record { status = a.status; did = before j.events a.did; rest = a.rest; refusal = a.refusal }) own.all);
     })
     promise_read answer (inr (inl fault)) = inr (inl (record {
       status = fault.status;
+      refusal = fault.refusal;
       rose = omega (arith, takes.goes.later, fault.rose);
       part = told_job _ read (Ok what) read_by (w.left u) takes.text reads takes.says (if_some (next what w).job (λ j stops. record {
         did = record { done = stops.did.done; part = stops.did.part; did = before stops.did.done stops.did.did };
-        inputs = asks_behind j.rest [] stops.did.done start.world later.world new.world (refl, refl) (still takes.gone takes.goes) stops.inputs;
+        inputs = asks_behind j.rest j.way [] stops.did.done answer.console start.world later.world new.world (refl, refl) (still takes.gone takes.goes) stops.inputs;
       }) fault.part);
     }))
     promise_read answer (inr (inr lacks)) = inr (inr (record {
       words = refl;
-      status = lacks.status;
+      plain = lacks.plain;
       done = lacks.done;
       did = before lacks.done (subst (λ (bs : List Event). DidAll (bs ++ lacks.done) later.world new.world) unbound lacks.did);
       makings = lacks.makings;
@@ -168,7 +180,7 @@ module _ {A : Type 0} (u : unit.Unit) (other : is_read u ≡ false) (read : List
   pub keeps_read : (t : Tells u start.world) (what : A) (takes : TakesFrom u start later (λ text. read text ≡ Ok what)) (v : World) → next what v ≡ next what (world_with_texts (t.with takes.text) start.world)
       → (next what (world_with_texts (t.with takes.text) start.world)).usage ≡ false → (next what (world_with_texts (t.with takes.text) start.world)).made.bindings ≡ []
       → ((P : List Event → Type 0) → IfSome (next what (world_with_texts (t.with takes.text) start.world)).made.texts P → IfSome (made (world_with_texts (t.with takes.text) start.world)) P)
-      → (answer : Status) → KeepsPromise (next what v) later new answer → KeepsJob (read_promise u read made next) start new answer
+      → (answer : Answer) → KeepsPromise (next what v) later new answer → KeepsJob (read_promise u read made next) start new answer
   keeps_read t what takes v apart plain unbound texts answer kept = record {
     texts = t.with takes.text;
     told = t.told takes.text takes.told;

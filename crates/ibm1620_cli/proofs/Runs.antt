@@ -11,12 +11,13 @@ use Rattle.operator_script.specs.TurnEvents.{run_events}
 use Rattle.sps_pass_one.specs.Layout.{Refusal}
 use Rattle.deck_punch.specs.declared.form.DeckForm.{DeckForm}
 use Rattle.ibm1620_cli.specs.declared.status.Status.{Status}
+use Rattle.ibm1620_cli.specs.declared.answer.Answer.{Answer}
 use Rattle.ibm1620_cli.specs.declared.status.Status.TheVariants.{HostFault, OutOfMemory}
 use Rattle.ibm1620_cli.specs.Makings.{AreMakings}
 use Rattle.ibm1620_cli.specs.Report.{report_line}
-use Rattle.ibm1620_cli.specs.Promise.{Job, job_behind, Unasked, StopsAt, texts_alone, Promise, world_with_texts, Texts, KeepsPromise}
-use Rattle.ibm1620_cli.specs.Turns.{Feed, feed_at, LoadedMachine, turns_job, turns_promise, first_over}
-use Rattle.ibm1620_cli.specs.Program.{deck_of, set_up_after_load, loaded_by, program_promise}
+use Rattle.ibm1620_cli.specs.Promise.{Job, job_behind, answer_of, Unasked, StopsAt, texts_alone, Promise, world_with_texts, Texts, KeepsPromise}
+use Rattle.ibm1620_cli.specs.Turns.{Feed, feed_at, LoadedMachine, turns_job, turns_promise, state_over, first_over}
+use Rattle.ibm1620_cli.specs.Program.{deck_of, set_up_at_power_on, set_up_after_load, loaded_by, program_promise}
 use Rattle.ibm1620_cli.specs.Source.{SourceTexts, program_of, made_of, made_events, events_by, events_of_source, events_at, promise_by}
 use Rattle.ibm1620_cli.specs.RunJob.{turned_promise, script_promise}
 use Rattle.ibm1620_cli.specs.Parts.{StopsWithin}
@@ -37,7 +38,7 @@ module _ {A : Type 0} (own : Option (List (List ℕ))) (before : List Event) (li
   job_is : (a : A) → job_behind before (turns_job own [] limit (loaded a)) ≡ turns_job own before limit (loaded a)
   job_is a =
       let j : Job = turns_job own before limit (loaded a) in
-      λ i. record { status = j.status; events = sym (append_assoc before ((loaded a).taken ++ run_events limit (loaded a).first) (text_events units.Report (report_line j.status))) i; rest = j.rest }
+      λ i. record j { events = sym (append_assoc before ((loaded a).taken ++ run_events limit (loaded a).first) (text_events units.Report (report_line j.status))) i }
 
   behind_is : made_behind ≡ turns_promise own before limit loaded told
   behind_is = λ i. record {
@@ -46,7 +47,7 @@ module _ {A : Type 0} (own : Option (List (List ℕ))) (before : List Event) (li
     usage = false;
   }
 
-  pub turns_behind : (start mid new : Seen) → start.faults ≤ mid.faults → DidAll before start.world mid.world → Unasked start.world mid.world → AreMakings before → (answer : Status) → KeepsPromise (turns_promise own [] limit loaded told) mid new answer → KeepsPromise (turns_promise own before limit loaded told) start new answer
+  pub turns_behind : (start mid new : Seen) → start.faults ≤ mid.faults → DidAll before start.world mid.world → Unasked start.world mid.world → AreMakings before → (answer : Answer) → KeepsPromise (turns_promise own [] limit loaded told) mid new answer → KeepsPromise (turns_promise own before limit loaded told) start new answer
   turns_behind start mid new later did still makings answer kept =
       subst (λ (c : Promise). KeepsPromise c start new answer) behind_is (promise_made before makings (turns_promise own [] limit loaded told).job [] start mid new later did still answer kept)
 
@@ -58,27 +59,27 @@ module _ (m : ℕ) (form : DeckForm) (limit : ℕ) (lines : List ScriptLine) (so
   deck = deck_of (program_of m form source)
 
   abbrev loaded : World → Feed → LoadedMachine
-  loaded w feed = loaded_by deck feed (first_over w (set_up_after_load (program_of m form source) feed) lines)
+  loaded w feed = loaded_by (program_of m form source) feed (state_over w (set_up_at_power_on (program_of m form source) feed)) (first_over w (set_up_after_load (program_of m form source) feed) lines)
 
   -- the texts are written, and then the turns are taken
-  pub promise_run_behind : (start mid new : Seen) (answer : Status) → Goes start mid (after_events start.world (made_events made))
+  pub promise_run_behind : (start mid new : Seen) (answer : Answer) → Goes start mid (after_events start.world (made_events made))
       → KeepsPromise (program_promise [] limit lines (program_of m form source) mid.world) mid new answer → KeepsPromise (turned_promise m form limit lines source start.world) start new answer
   promise_run_behind start mid new answer goes kept =
       turns_behind (Some deck) (made_events made) limit (loaded start.world) (feed_at start.world) start mid new goes.later
       (same_of mid.world (after_events start.world (made_events made)) goes.world) (goes_unasked (made_events made) start mid goes) (makings_of made) answer
       (subst (λ (v : World). KeepsPromise (turns_promise (Some deck) [] limit (loaded v) (feed_at v)) mid new answer) (goes.world ∙ made_world made start.world) kept)
 
-  job_part : (o : Option Feed) (at : Feed → LoadedMachine) (start new : Seen) → Unasked start.world new.world → DidPart (made_events made) start.world new.world → IfSome (option_map (λ feed. turns_job (Some deck) (made_events made) limit (at feed)) o) (λ j. StopsAt j start.world new.world)
+  job_part : (o : Option Feed) (at : Feed → LoadedMachine) (start new : Seen) → Unasked start.world new.world → DidPart (made_events made) start.world new.world → IfSome (option_map (λ feed. turns_job (Some deck) (made_events made) limit (at feed)) o) (λ j. StopsAt j None start.world new.world)
   job_part None at start new still p = tt
   job_part (Some feed) at start new still p =
       stops_unasked (turns_job (Some deck) (made_events made) limit (at feed)) (made_events made) _ start.world new.world (append_assoc (made_events made) ((at feed).taken ++ run_events limit (at feed).first) _) (made_take made) still p
 
   -- or they are not
-  pub promise_run_unwritten : (start new : Seen) (s : Status) → ((s ≡ OutOfMemory) × (new ≡ start)) ⊎ ((s ≡ HostFault) × StopsWithin (made_events made) start new) → KeepsPromise (turned_promise m form limit lines source start.world) start new s
+  pub promise_run_unwritten : (start new : Seen) (s : Status) → ((s ≡ OutOfMemory) × (new ≡ start)) ⊎ ((s ≡ HostFault) × StopsWithin (made_events made) start new) → KeepsPromise (turned_promise m form limit lines source start.world) start new (answer_of s)
   promise_run_unwritten start new s (inl lacks) = rw (lacks.0, lacks.1) (promise_memory (turned_promise m form limit lines source start.world) start start (did_none start.world) (λ u read. refl) refl refl)
   promise_run_unwritten start new s (inr stops) =
       let fails = stops_fails (made_events made) start new stops.1 in
-      inr (inl (record { status = stops.0; rose = fails.rose; part = job_part (feed_at start.world) (loaded start.world) start new (stops_asked (made_events made) start new stops.1) fails.part }))
+      inr (inl (record { status = stops.0; refusal = refl; rose = fails.rose; part = job_part (feed_at start.world) (loaded start.world) start new (stops_asked (made_events made) start new stops.1) fails.part }))
 
 -- what is done behind the script is so whatever was taken from it, and whatever it was
 pub run_apart : (m : ℕ) (form : DeckForm) (limit : ℕ) (lines : List ScriptLine) (gone : Readings) (script : List ℕ) (t : Texts) (w : World) → script_promise m form limit lines (world_with_texts t (world_after_take units.Script gone w)) ≡ script_promise m form limit lines (world_with_texts (record t { script = script }) w)

@@ -15,11 +15,15 @@ unfoldable pub set_up_after_steps : ℕ → ℕ → List Entry → Feed → SetU
 set_up_after_steps m steps cards feed punched typed =
     (last_place steps (first_in (load_key (state_over_feed m punched typed cards feed)) [])).state
 
--- so it is loaded, over the texts of a world: the Load key does what it does outside, then the steps do, and the turns begin behind them
-abbrev pub machine_after_steps : ℕ → ℕ → World → List ScriptLine → List Entry → Feed → LoadedMachine
-machine_after_steps m steps w lines cards feed =
+-- so it is loaded, over the texts of a world, the first of its cards being those of its reader's pile: the Load key does what it does outside,
+-- then the steps do, and the turns begin behind them
+abbrev pub machine_after_steps : ℕ → ℕ → World → List ScriptLine → List Entry → List Entry → Feed → LoadedMachine
+machine_after_steps m steps w lines pile cards feed =
     let powered = state_over w (λ punched typed. state_over_feed m punched typed cards feed) in
     record {
+      powered = powered;
+      steps = steps;
+      pile = pile;
       cards = cards;
       keys = lines_of_feed feed;
       taken = load_events powered ++ run_events steps (first_in (load_key powered) []);

@@ -7,14 +7,17 @@ use Rattle.outside_io.specs.World.{World, Asked, Seen, Goes}
 use Rattle.outside_io.specs.Events.{Event, BindFile, WriteByte, WriteSector, TakeCard, TakeLine, after_event, after_events, cards_in, lines_in, text_events, IsFirstPart, DidPart}
 use Rattle.outside_io.proofs.EventLemmas.{cards_append, lines_append, cards_text, lines_text, first_more}
 use Rattle.card_code.specs.Entries.{Entry}
-use Rattle.card_unit.proofs.Ahead.{ahead_same}
+use Rattle.card_unit.proofs.ReadSame as hoppers
 use Rattle.command_line.specs.Words.{Names}
-use Rattle.typewriter.proofs.Keyboards.{keys_same, turn_same}
+use Rattle.typewriter.proofs.Keyboards.{keys_same}
+use Rattle.typewriter.proofs.ReadSame as keyboards
 use Rattle.cpu_step.specs.State.{State}
+use Rattle.cpu_step.specs.declared.console.Console.{Console}
 use Rattle.cpu_step.proofs.InputsTaken.{HasTaken, taken_on}
 use Rattle.cpu_step.proofs.Readers.{hopper_same}
 use Rattle.ibm1620_cli.specs.Makings.{AreMakings}
 use Rattle.ibm1620_cli.specs.Job.{bind_event, bind_events}
+use Rattle.ibm1620_cli.specs.Ways.{Way}
 use Rattle.ibm1620_cli.specs.Promise.{Rest, Job, HasLeft, TakesNone, Unasked, AsksForInputs, unasked, asked, StopsAt}
 
 -- HOW MANY
@@ -86,20 +89,21 @@ taken_behind before ds s t none taken =
     taken_on before ds s s t (record { cards = ap (λ (n : ℕ). drop n s.hopper) (sym none.0); lines = ap (λ (n : ℕ). drop n s.keys) (sym none.1) }) taken
 
 -- inputs that have these cards and lines left have them left by any other name
-pub left_as : (own : Option (List (List ℕ))) (cards keys more_cards more_keys : List Entry) (w : World) → cards ≡ more_cards → keys ≡ more_keys → HasLeft own cards keys w → HasLeft own more_cards more_keys w
-left_as own cards keys more_cards more_keys w same_cards same_keys has = record {
+pub left_as : (r : Rest) (cards keys more_cards more_keys : List Entry) (s : State) (shown : Option Console) (w : World) → cards ≡ more_cards → keys ≡ more_keys → HasLeft r cards keys s shown w → HasLeft r more_cards more_keys s shown w
+left_as r cards keys more_cards more_keys s shown w same_cards same_keys has = record {
   hopper = has.hopper;
   keyboard = has.keyboard;
   own_is = has.own_is;
   cards_are = has.cards_are ∙ ap (λ (es : List Entry). Some es) same_cards;
   lines_are = has.lines_are ∙ ap (λ (es : List Entry). Some es) same_keys;
-  ahead = has.ahead;
-  turn = has.turn;
+  read = has.read;
+  typed = has.typed;
+  shows = has.shows;
 }
 
 -- inputs are left so as long as nothing is taken of them, and none is asked
-pub left_same : (own : Option (List (List ℕ))) (cards keys : List Entry) (w v : World) → v.left ≡ w.left → v.asked ≡ w.asked → HasLeft own cards keys w → HasLeft own cards keys v
-left_same own cards keys w v left still has =
+pub left_same : (r : Rest) (cards keys : List Entry) (s : State) (shown : Option Console) (w v : World) → v.left ≡ w.left → v.asked ≡ w.asked → HasLeft r cards keys s shown w → HasLeft r cards keys s shown v
+left_same r cards keys s shown w v left still has =
     let left_at : (u : unit.Unit) → v.left u ≡ w.left u = λ u. ap (λ (f : unit.Unit → Option (List ℕ)). f u) left in
     let asked_at : (u : unit.Unit) → v.asked u ≡ w.asked u = λ u. ap (λ (f : unit.Unit → Option Asked). f u) still in
     record {
@@ -108,8 +112,9 @@ left_same own cards keys w v left still has =
       own_is = has.own_is;
       cards_are = hopper_same has.hopper v w (left_at units.Deck) (left_at units.Data) ∙ has.cards_are;
       lines_are = keys_same has.keyboard w v (left_at units.Keys) ∙ has.lines_are;
-      ahead = ahead_same has.hopper w v (left_at units.Deck) (asked_at units.Deck) (asked_at units.Data) has.ahead;
-      turn = turn_same has.keyboard w v (asked_at units.Keys) has.turn;
+      read = hoppers.read_same has.hopper w v (left_at units.Deck) (left_at units.Data) (asked_at units.Deck) (asked_at units.Data) (record { pile = r.pile; all = r.cards }) has.read;
+      typed = keyboards.read_same has.keyboard w v (left_at units.Keys) (asked_at units.Keys) r.keys has.typed;
+      shows = has.shows;
     }
 
 -- HOW THE INPUTS ARE ASKED
@@ -132,26 +137,28 @@ goes_unasked ds old new goes u read = ap (λ (w : World). w.asked u) goes.world 
 -- WHERE A JOB STOPS
 
 -- as the inputs were left and asked, so they stay
-pub asks_on : (rest : Option Rest) (done more : List Event) (old mid new : World) → TakesSame more done → new.left ≡ mid.left → new.asked ≡ mid.asked → AsksForInputs rest done old mid → AsksForInputs rest more old new
-asks_on rest done more old mid new same left still (unasked none before) = unasked (same.0 ∙ none.0, same.1 ∙ none.1) (λ u read. ap (λ (f : unit.Unit → Option Asked). f u) still ∙ before u read)
-asks_on rest done more old mid new same left still (asked r is has) =
-    asked r is
-    (left_same r.own (drop (cards_in more) r.cards) (drop (lines_in more) r.keys) mid new left still
-    (left_as r.own (drop (cards_in done) r.cards) (drop (lines_in done) r.keys) (drop (cards_in more) r.cards) (drop (lines_in more) r.keys) mid
+pub asks_on : (rest : Option Rest) (way : Option Way) (done more : List Event) (shown : Option Console) (old mid new : World) → TakesSame more done → new.left ≡ mid.left → new.asked ≡ mid.asked → AsksForInputs rest way done shown old mid
+    → AsksForInputs rest way more shown old new
+asks_on rest way done more shown old mid new same left still (unasked none before dark) = unasked (same.0 ∙ none.0, same.1 ∙ none.1) (λ u read. ap (λ (f : unit.Unit → Option Asked). f u) still ∙ before u read) dark
+asks_on rest way done more shown old mid new same left still (asked r is s stands has) =
+    asked r is s stands
+    (left_same r (drop (cards_in more) r.cards) (drop (lines_in more) r.keys) s shown mid new left still
+    (left_as r (drop (cards_in done) r.cards) (drop (lines_in done) r.keys) (drop (cards_in more) r.cards) (drop (lines_in more) r.keys) s shown mid
     (ap (λ (n : ℕ). drop n r.cards) (sym same.0)) (ap (λ (n : ℕ). drop n r.keys) (sym same.1)) has))
 
 -- behind what takes none, and asks for none
-pub asks_behind : (rest : Option Rest) (before done : List Event) (old mid new : World) → TakesNone before → Unasked old mid → AsksForInputs rest done mid new → AsksForInputs rest (before ++ done) old new
-asks_behind rest before done old mid new none still (unasked none_more more) = unasked (takes_neither before done none none_more) (unasked_on old mid new still more)
-asks_behind rest before done old mid new none still (asked r is has) =
+pub asks_behind : (rest : Option Rest) (way : Option Way) (before done : List Event) (shown : Option Console) (old mid new : World) → TakesNone before → Unasked old mid → AsksForInputs rest way done shown mid new
+    → AsksForInputs rest way (before ++ done) shown old new
+asks_behind rest way before done shown old mid new none still (unasked none_more more dark) = unasked (takes_neither before done none none_more) (unasked_on old mid new still more) dark
+asks_behind rest way before done shown old mid new none still (asked r is s stands has) =
     let same = takes_behind before done none in
-    asked r is
-    (left_as r.own (drop (cards_in done) r.cards) (drop (lines_in done) r.keys) (drop (cards_in (before ++ done)) r.cards) (drop (lines_in (before ++ done)) r.keys) new
+    asked r is s stands
+    (left_as r (drop (cards_in done) r.cards) (drop (lines_in done) r.keys) (drop (cards_in (before ++ done)) r.cards) (drop (lines_in (before ++ done)) r.keys) s shown new
     (ap (λ (n : ℕ). drop n r.cards) (sym same.0)) (ap (λ (n : ℕ). drop n r.keys) (sym same.1)) has)
 
--- a job stopped within events that it begins with and that take none, and no input was asked
-pub stops_unasked : (j : Job) (before more : List Event) (old new : World) → j.events ≡ before ++ more → TakesNone before → Unasked old new → DidPart before old new → StopsAt j old new
+-- a job stopped within events that it begins with and that take none, and no input was asked: nothing is shown
+pub stops_unasked : (j : Job) (before more : List Event) (old new : World) → j.events ≡ before ++ more → TakesNone before → Unasked old new → DidPart before old new → StopsAt j None old new
 stops_unasked j before more old new is none still d = record {
   did = record { done = d.done; part = subst (IsFirstPart d.done) (sym is) (first_more d.done before more d.part); did = d.did };
-  inputs = unasked (first_takes d.done before d.part none) still;
+  inputs = unasked (first_takes d.done before d.part none) still refl;
 }

@@ -13,11 +13,12 @@ use Rattle.sps_pass_two.specs.Broken.{refusal_of}
 use Rattle.sps_generator.specs.Generated.{source_deck}
 use Rattle.deck_punch.specs.declared.form.DeckForm.TheVariants.{SelfLoading}
 use Rattle.ibm1620_cli.specs.declared.status.Status.{Status}
+use Rattle.ibm1620_cli.specs.declared.answer.Answer.{Answer}
 use Rattle.ibm1620_cli.specs.declared.status.Status.TheVariants.{HostFault, OutOfMemory}
 use Rattle.ibm1620_cli.specs.Inputs.{reads_nothing}
-use Rattle.ibm1620_cli.specs.Promise.{Job, Ends, StopsAt, Promise, KeepsPromise}
-use Rattle.ibm1620_cli.specs.Turns.{Feed, feed_at, first_over, LoadedMachine, turns_job}
-use Rattle.ibm1620_cli.specs.Program.{Program, Fits, deck_of, set_up_after_load, loaded_by}
+use Rattle.ibm1620_cli.specs.Promise.{Job, answer_of, Ends, StopsAt, Promise, KeepsPromise}
+use Rattle.ibm1620_cli.specs.Turns.{Feed, feed_at, state_over, first_over, LoadedMachine, turns_job}
+use Rattle.ibm1620_cli.specs.Program.{Program, Fits, deck_of, set_up_at_power_on, set_up_after_load, loaded_by}
 use Rattle.ibm1620_cli.specs.Source.{card_count, program_of, made_of, made_events, promise_by}
 use Rattle.ibm1620_cli.specs.RunJob.{turned_promise}
 use Rattle.ibm1620_cli.specs.TrialJob.{trial_modules, trial_limit, steps_of, trial_line, line_behind, job_of_trial, with_trial, tried_promise, trial_promise}
@@ -41,7 +42,7 @@ steps_fault s n is counts = let none : steps_of s ≡ None = ap steps_of is in l
 steps_memory : (s : Status) (n : ℕ) → s ≡ OutOfMemory → steps_of s ≡ Some n → ⊥
 steps_memory s n is counts = let none : steps_of s ≡ None = ap steps_of is in let both : None ≡ Some n = sym none ∙ counts in cc
 
-module _ (statements number cards : ℕ) (c : Promise) (start mid : Seen) (status : Status) where
+module _ (statements number cards : ℕ) (c : Promise) (start mid : Seen) (ran : Answer) where
   abbrev whole : Promise
   whole = with_trial statements number cards c
 
@@ -49,24 +50,26 @@ module _ (statements number cards : ℕ) (c : Promise) (start mid : Seen) (statu
   tried j = job_of_trial statements number cards j
 
   -- the line behind a job that ends so
-  line_by : (j : Job) (o : Option ℕ) → status ≡ j.status → steps_of status ≡ o → line_behind statements number cards (steps_of j.status) ≡ line_behind statements number cards o
+  line_by : (j : Job) (o : Option ℕ) → ran.status ≡ j.status → steps_of ran.status ≡ o → line_behind statements number cards (steps_of j.status) ≡ line_behind statements number cards o
   line_by j o same counts = ap (line_behind statements number cards) (ap steps_of (sym same) ∙ counts)
 
   -- no line is added
-  without : steps_of status ≡ None → KeepsPromise c start mid status → KeepsPromise whole start mid status
+  without : steps_of ran.status ≡ None → KeepsPromise c start mid ran → KeepsPromise whole start mid ran
   without none (inl own) = inl (record {
     own = own.own;
     usage_is = own.usage_is;
-    all = if_map tried c.job (λ j. Ends j start mid status) (if_some c.job (λ j all. record {
+    all = if_map tried c.job (λ j. Ends j start mid ran) (if_some c.job (λ j all. record {
       status = all.status;
       did = subst (λ (ds : List Event). DidAll ds start.world mid.world) (sym (ap (λ (l : List ℕ). j.events ++ text_events units.Report l) (line_by j None all.status none) ∙ append-nil j.events)) all.did;
       rest = all.rest;
+      refusal = all.refusal;
     }) own.all);
   })
   without none (inr (inl fault)) = inr (inl (record {
     status = fault.status;
+    refusal = fault.refusal;
     rose = fault.rose;
-    part = if_map tried c.job (λ j. StopsAt j start.world mid.world) (if_some c.job (λ j stops. record {
+    part = if_map tried c.job (λ j. StopsAt j ran.console start.world mid.world) (if_some c.job (λ j stops. record {
       did = record {
         done = stops.did.done;
         part = first_more stops.did.done j.events (text_events units.Report (line_behind statements number cards (steps_of j.status))) stops.did.part;
@@ -75,43 +78,46 @@ module _ (statements number cards : ℕ) (c : Promise) (start mid : Seen) (statu
       inputs = stops.inputs;
     }) fault.part);
   }))
-  without none (inr (inr lacks)) = inr (inr (record { words = lacks.words; status = lacks.status; done = lacks.done; did = lacks.did; makings = lacks.makings; part = lacks.part; unasked = lacks.unasked }))
+  without none (inr (inr lacks)) = inr (inr (record { words = lacks.words; plain = lacks.plain; done = lacks.done; did = lacks.did; makings = lacks.makings; part = lacks.part; unasked = lacks.unasked }))
 
-  module _ (steps : ℕ) (counts : steps_of status ≡ Some steps) where
+  module _ (steps : ℕ) (counts : steps_of ran.status ≡ Some steps) where
     abbrev line : List ℕ
     line = trial_line statements number cards steps
 
     -- the line is added
-    with_done : (new : Seen) → Goes mid new (world_after_put units.Report line mid.world) → KeepsPromise c start mid status → KeepsPromise whole start new status
+    with_done : (new : Seen) → Goes mid new (world_after_put units.Report line mid.world) → KeepsPromise c start mid ran → KeepsPromise whole start new ran
     with_done new goes (inl own) = inl (record {
       own = own.own;
       usage_is = own.usage_is;
-      all = if_map tried c.job (λ j. Ends j start new status) (if_some c.job (λ j all. record {
+      all = if_map tried c.job (λ j. Ends j start new ran) (if_some c.job (λ j all. record {
         status = all.status;
         did = subst (λ (l : List ℕ). DidAll (j.events ++ text_events units.Report l) start.world new.world) (sym (line_by j (Some steps) all.status counts))
             (did_on j.events (text_events units.Report line) start.world mid.world new.world all.did (did_text units.Report line mid.world new.world goes.world));
-        rest = rest_reported j.rest mid new line goes all.rest;
+        rest = rest_reported j.rest ran.console mid new line goes all.rest;
+        refusal = all.refusal;
       }) own.all);
     })
-    with_done new goes (inr (inl fault)) = absurd (steps_fault status steps fault.status counts)
-    with_done new goes (inr (inr lacks)) = absurd (steps_memory status steps lacks.status counts)
+    with_done new goes (inr (inl fault)) = absurd (steps_fault ran.status steps fault.status counts)
+    with_done new goes (inr (inr lacks)) = absurd (steps_memory ran.status steps (ap (λ (a : Answer). a.status) lacks.plain) counts)
 
     -- a part of it is
-    with_part : (new : Seen) → start.faults ≤ mid.faults → IfSome c.job HasInputs → Stops mid new units.Report line → KeepsPromise c start mid status → KeepsPromise whole start new HostFault
-    with_part new later inputs stops (inl own) = inr (inl (record {
+    with_part : (new : Seen) → start.faults ≤ mid.faults → ran.refusal ≡ None → IfSome c.job HasInputs → Stops mid new units.Report line → KeepsPromise c start mid ran → KeepsPromise whole start new (record ran { status = HostFault })
+    with_part new later unrefused inputs stops (inl own) = inr (inl (record {
       status = refl;
+      refusal = unrefused;
       rose = omega (arith, later, stops.rose);
-      part = if_map tried c.job (λ j. StopsAt j start.world new.world)
-          (if_both c.job (λ j has all. stops_reported (tried j) j.events line start.world mid new (ap (λ (l : List ℕ). j.events ++ text_events units.Report l) (line_by j (Some steps) all.status counts)) all.did (ended_asks j start mid status has all) stops) inputs own.all);
+      part = if_map tried c.job (λ j. StopsAt j ran.console start.world new.world)
+          (if_both c.job (λ j has all. stops_reported (tried j) j.events line ran.console start.world mid new (ap (λ (l : List ℕ). j.events ++ text_events units.Report l) (line_by j (Some steps) all.status counts)) all.did (ended_asks j start mid ran has all) stops) inputs own.all);
     }))
-    with_part new later inputs stops (inr (inl fault)) = absurd (steps_fault status steps fault.status counts)
-    with_part new later inputs stops (inr (inr lacks)) = absurd (steps_memory status steps lacks.status counts)
+    with_part new later unrefused inputs stops (inr (inl fault)) = absurd (steps_fault ran.status steps fault.status counts)
+    with_part new later unrefused inputs stops (inr (inr lacks)) = absurd (steps_memory ran.status steps (ap (λ (a : Answer). a.status) lacks.plain) counts)
 
   -- whatever was added
-  promise_with : (new : Seen) (answer : Status) → start.faults ≤ mid.faults → IfSome c.job HasInputs → (o : Option ℕ) → steps_of status ≡ o → ReportsBy o statements number cards mid new status answer → KeepsPromise c start mid status → KeepsPromise whole start new answer
-  promise_with new answer later inputs None none reports kept = rw (reports.0, reports.1) (without none kept)
-  promise_with new answer later inputs (Some steps) counts (inl done) kept = rw done.0 (with_done steps counts new done.1 kept)
-  promise_with new answer later inputs (Some steps) counts (inr stops) kept = rw stops.0 (with_part steps counts new later inputs stops.1 kept)
+  promise_with : (new : Seen) (status : Status) → start.faults ≤ mid.faults → ran.refusal ≡ None → IfSome c.job HasInputs → (o : Option ℕ) → steps_of ran.status ≡ o → ReportsBy o statements number cards mid new ran.status status → KeepsPromise c start mid ran
+      → KeepsPromise whole start new (record ran { status = status })
+  promise_with new status later unrefused inputs None none reports kept = rw (reports.0, reports.1) (without none kept)
+  promise_with new status later unrefused inputs (Some steps) counts (inl done) kept = rw done.0 (with_done steps counts new done.1 kept)
+  promise_with new status later unrefused inputs (Some steps) counts (inr stops) kept = rw stops.0 (with_part steps counts new later unrefused inputs stops.1 kept)
 
 -- the line binds nothing, and reads nothing
 pub trial_stays : (o : Option ℕ) (statements number cards : ℕ) (old new : Seen) (status answer : Status) → ReportsBy o statements number cards old new status answer → Stays reads_nothing old.world new.world
@@ -133,15 +139,15 @@ module _ (statements number : ℕ) (source : List ℕ) (start : Seen) where
   texts = made_events (made_of trial_modules SelfLoading source)
 
   abbrev loaded : Feed → LoadedMachine
-  loaded feed = loaded_by (deck_of program) feed (first_over start.world (set_up_after_load program feed) [])
+  loaded feed = loaded_by program feed (state_over start.world (set_up_at_power_on program feed)) (first_over start.world (set_up_after_load program feed) [])
 
   counts_none : (s : Status) (new : Seen) → ((s ≡ OutOfMemory) × (new ≡ start)) ⊎ ((s ≡ HostFault) × StopsWithin (made_events (made_of trial_modules SelfLoading source)) start new) → steps_of s ≡ None
   counts_none s new (inl lacks) = ap steps_of lacks.0
   counts_none s new (inr stops) = ap steps_of stops.0
 
   -- its texts are not written, or not all
-  pub promise_untried : (new : Seen) (s : Status) → ((s ≡ OutOfMemory) × (new ≡ start)) ⊎ ((s ≡ HostFault) × StopsWithin (made_events (made_of trial_modules SelfLoading source)) start new) → KeepsPromise (tried_promise statements number source start.world) start new s
-  promise_untried new s fails = without statements number cards run start new s (counts_none s new fails) (promise_run_unwritten trial_modules SelfLoading trial_limit [] source start new s fails)
+  pub promise_untried : (new : Seen) (s : Status) → ((s ≡ OutOfMemory) × (new ≡ start)) ⊎ ((s ≡ HostFault) × StopsWithin (made_events (made_of trial_modules SelfLoading source)) start new) → KeepsPromise (tried_promise statements number source start.world) start new (answer_of s)
+  promise_untried new s fails = without statements number cards run start new (answer_of s) (counts_none s new fails) (promise_run_unwritten trial_modules SelfLoading trial_limit [] source start new s fails)
 
   run_inputs : Fits program → IfSome run.job HasInputs
   run_inputs fits =
@@ -149,11 +155,11 @@ module _ (statements number : ℕ) (source : List ℕ) (start : Seen) where
       (all_some (feed_at start.world) (λ feed. turns_inputs (Some (deck_of program)) texts trial_limit (loaded feed) (made_take (made_of trial_modules SelfLoading source)) (program_loaded program fits start.world [] feed)))
 
   -- its program was run, and the line is added
-  pub promise_tried : Fits program → (mid new : Seen) (status answer : Status) (count : ℕ) → count ≡ cards → start.faults ≤ mid.faults → ReportsTrial statements number count mid new status answer → KeepsPromise run start mid status
-      → KeepsPromise (tried_promise statements number source start.world) start new answer
-  promise_tried fits mid new status answer count are later reports kept =
-      promise_with statements number cards run start mid status new answer later (run_inputs fits) (steps_of status) refl
-      (subst (λ (n : ℕ). ReportsTrial statements number n mid new status answer) are reports) kept
+  pub promise_tried : Fits program → (mid new : Seen) (ran : Answer) (status : Status) (count : ℕ) → count ≡ cards → start.faults ≤ mid.faults → ran.refusal ≡ None → ReportsTrial statements number count mid new ran.status status → KeepsPromise run start mid ran
+      → KeepsPromise (tried_promise statements number source start.world) start new (record ran { status = status })
+  promise_tried fits mid new ran status count are later unrefused reports kept =
+      promise_with statements number cards run start mid ran new status later unrefused (run_inputs fits) (steps_of ran.status) refl
+      (subst (λ (n : ℕ). ReportsTrial statements number n mid new ran.status status) are reports) kept
 
 -- Behind the making of the source.
 module _ (statements number : ℕ) (start : Seen) where
@@ -172,14 +178,14 @@ module _ (statements number : ℕ) (start : Seen) where
   unbound_by None = refl
   unbound_by (Some r) = refl
 
-  pub trial_lacks : KeepsPromise (trial_promise statements number start.world) start start OutOfMemory
+  pub trial_lacks : KeepsPromise (trial_promise statements number start.world) start start (answer_of OutOfMemory)
   trial_lacks = promise_memory (by (refusal_of (size trial_modules) made)) start start (did_none start.world) (λ u read. refl) (unbound_by (refusal_of (size trial_modules) made)) (plain_by (refusal_of (size trial_modules) made))
 
   -- it breaks a rule, which is reported
-  pub trial_refused : (new : Seen) (answer : Status) → RefusesSource trial_modules made start new answer → KeepsPromise (trial_promise statements number start.world) start new answer
+  pub trial_refused : (new : Seen) (answer : Answer) → RefusesSource trial_modules made start new answer → KeepsPromise (trial_promise statements number start.world) start new answer
   trial_refused new answer (breaks statement rule part broken reports) = refused_promise (tried_promise statements number) made (refusal_of (size trial_modules) made) start new statement rule part answer broken reports
   trial_refused new answer (no_memory is same) = rw (is, same) trial_lacks
 
   -- it breaks none
-  pub trial_unbroken : (new : Seen) (answer : Status) → refusal_of (size trial_modules) made ≡ None → KeepsPromise (tried_promise statements number made start.world) start new answer → KeepsPromise (trial_promise statements number start.world) start new answer
+  pub trial_unbroken : (new : Seen) (answer : Answer) → refusal_of (size trial_modules) made ≡ None → KeepsPromise (tried_promise statements number made start.world) start new answer → KeepsPromise (trial_promise statements number start.world) start new answer
   trial_unbroken new answer good kept = subst (λ (o : Option Refusal). KeepsPromise (by o) start new answer) (sym good) kept

@@ -40,6 +40,7 @@ use Rattle.disk_loader.proofs.SameCore.{same_core, first_cylinder}
 use Rattle.command_line.specs.declared.words.Command.{Command}
 use Rattle.command_line.specs.Words.{Said}
 use Rattle.ibm1620_cli.specs.declared.status.Status.{Status}
+use Rattle.ibm1620_cli.specs.declared.answer.Answer.{Answer}
 use Rattle.ibm1620_cli.specs.declared.status.Status.TheVariants.{OutOfMemory}
 use Rattle.ibm1620_cli.specs.Binding.{all_bound}
 use Rattle.ibm1620_cli.specs.Report.{report_line}
@@ -347,8 +348,15 @@ module _ (m : ℕ) (source : List ℕ) (sized : IsSize m) (good : refusal_of (si
 pub disk_trip : DiskRoundTripLaw
 disk_trip m source sized good = makes_disk_trip m source sized good
 
+-- a job, whatever way its machine goes
+abbrev without_way : Job → Job
+without_way j = record j { way = None }
+
+ends_without : (j : Job) (old new : Seen) (answer : Answer) → Ends j old new answer → Ends (without_way j) old new answer
+ends_without j old new answer ends = record { status = ends.status; did = ends.did; rest = ends.rest; refusal = ends.refusal }
+
 -- A load of a deck, by what the program tells
-module _ (words : List (List ℕ)) (old new : Seen) (answer : Status) (r : LaterLoad words old.world) (deck : List ℕ) (cards : List (List ℕ)) (set_up : SetUp) where
+module _ (words : List (List ℕ)) (old new : Seen) (answer : Answer) (r : LaterLoad words old.world) (deck : List ℕ) (cards : List (List ℕ)) (set_up : SetUp) where
   abbrev w : World
   w = all_bound r.said.names old.world
 
@@ -381,15 +389,21 @@ module _ (words : List (List ℕ)) (old new : Seen) (answer : Status) (r : Later
     pub does : DoesAfter r.steps cards at_power_on entry
 
   abbrev ended_at : List Entry → RunPlace → List Event → Job
-  ended_at hopper last events =
+  ended_at pile last events =
       let status = status_of last.steps (ending_of last.state) in
-      job_behind binds (job_leaving (Some (record { state = last.state; own = None; cards = hopper; keys = lines_of_feed r.feed })) status (report_line status) events)
+      job_behind binds
+      (job_leaving (Some (record { state = last.state; own = None; pile = pile; cards = pile ++ entries_of_unit units.Data 0 r.feed.cards; keys = lines_of_feed r.feed })) None status (report_line status) events)
 
-  same_job : DeckLeads → job_behind binds (turns_job None [] r.said.limit (keyed_machine m w given load)) ≡ later_job r cards set_up
+  -- what the load comes to
+  abbrev loaded : Job
+  loaded = job_behind binds (turns_job None [] r.said.limit (keyed_machine m w given load))
+
+  -- it is the same but for the way that its machine goes
+  same_job : DeckLeads → without_way loaded ≡ later_job r cards set_up
   unfolding state_after_load_key
   same_job leads =
-      ap (λ (n : ℕ). job_behind binds (turns_job None [] n (keyed_machine m w given load))) r.limit_is
-      ∙ (λ i. ended_at (leads.read i ++ entries_of_unit units.Data 0 r.feed.cards) (leads.ends r.limit r.lines i) (leads.does r.limit r.lines i))
+      ap (λ (n : ℕ). without_way (job_behind binds (turns_job None [] n (keyed_machine m w given load)))) r.limit_is
+      ∙ (λ i. ended_at (leads.read i) (leads.ends r.limit r.lines i) (leads.does r.limit r.lines i))
 
   -- by any texts that are what is told
   module _ (t : Texts) (told : AreTold t w) where
@@ -400,26 +414,25 @@ module _ (words : List (List ℕ)) (old new : Seen) (answer : Status) (r : Later
     abbrev read_as : Result (List ScriptLine) Status → Option Job
     read_as x = option_map (job_behind binds) (job_read (λ lines. (loaded_promise m r.said.limit lines given_by).job) x)
 
-    job_is : DeckLeads → (said_promise r.said given_by).job ≡ Some (later_job r cards set_up)
+    job_is : DeckLeads → (said_promise r.said given_by).job ≡ Some loaded
     job_is leads =
         ap (λ (c : Command). option_map (job_behind binds) (job_promise m c r.said given_by).job) r.loads
         ∙ ap (λ (left : Option (List ℕ)). option_map (job_behind binds) (option_and_then (λ text. job_read (λ lines. (loaded_promise m r.said.limit lines given_by).job) (script_read m text)) left)) (told_text (w.left units.Script) r.script t.script r.script_is told.script)
         ∙ ap read_as (short_read m r.script (Ok given) r.script_fits r.lines_are)
         ∙ (λ i. option_map (job_behind binds) (option_map (λ l. turns_job None [] r.said.limit (keyed_machine m w given l)) (loading_of (leads.deck_is i) (r.feed_is i))))
-        ∙ ap (λ (j : Job). Some j) (same_job leads)
 
-  later_said : DeckLeads → DoesSaid r.said old new answer → (Rose old.faults new.faults → ⊥) → answer ≢ OutOfMemory → Ends (later_job r cards set_up) old new answer
+  later_said : DeckLeads → DoesSaid r.said old new answer → (Rose old.faults new.faults → ⊥) → answer.status ≢ OutOfMemory → Ends (later_job r cards set_up) old new answer
   later_said leads kept none found = elim kept.keeps [
-    | inl own ↦ subst (λ (o : Option Job). IfSome o (λ j. Ends j old new answer)) (job_is kept.texts kept.told leads) own.all
+    | inl own ↦ subst (λ (j : Job). Ends j old new answer) (same_job leads) (ends_without loaded old new answer (subst (λ (o : Option Job). IfSome o (λ j. Ends j old new answer)) (job_is kept.texts kept.told leads) own.all))
     | inr (inl fault) ↦ absurd (none fault.rose)
-    | inr (inr lacks) ↦ absurd (found lacks.status)
+    | inr (inr lacks) ↦ absurd (found (ap (λ (a : Answer). a.status) lacks.plain))
   ]
 
-  pub later_told : DeckLeads → Tells words old new answer → (Rose old.faults new.faults → ⊥) → answer ≢ OutOfMemory → Ends (later_job r cards set_up) old new answer
+  pub later_told : DeckLeads → Tells words old new answer → (Rose old.faults new.faults → ⊥) → answer.status ≢ OutOfMemory → Ends (later_job r cards set_up) old new answer
   later_told leads (inl told) none found = later_said leads (subst (λ (o : Option Said). DoesWords o old new answer) r.is told) none found
-  later_told leads (inr lacks) none found = absurd (found lacks.status)
+  later_told leads (inr lacks) none found = absurd (found lacks.0.lacks)
 
-pub trip_told : (words : List (List ℕ)) (old new : Seen) (answer : Status) → Tells words old new answer → RoundTrip words old new answer
+pub trip_told : (words : List (List ℕ)) (old new : Seen) (answer : Answer) → Tells words old new answer → RoundTrip words old new answer
 trip_told words old new answer tells r none found =
     let c : ℕ = modules_of r.load.said.core in
     let world : World = all_bound r.load.said.names old.world in
@@ -436,7 +449,7 @@ trip_told words old new answer tells r none found =
     })
     tells none found
 
-pub disk_trip_told : (words : List (List ℕ)) (old new : Seen) (answer : Status) → Tells words old new answer → DiskRoundTrip words old new answer
+pub disk_trip_told : (words : List (List ℕ)) (old new : Seen) (answer : Answer) → Tells words old new answer → DiskRoundTrip words old new answer
 disk_trip_told words old new answer tells r none found =
     let c : ℕ = modules_of r.load.said.core in
     let world : World = all_bound r.load.said.names old.world in

@@ -7,6 +7,7 @@ use Rattle.sps_pass_two.specs.Kept.{digit_count}
 use Rattle.deck_punch.specs.declared.form.DeckForm.{DeckForm}
 use Rattle.ibm1620_cli.specs.declared.status.Status.{Status}
 use Rattle.ibm1620_cli.specs.declared.status.Status.TheVariants.{Assembled}
+use Rattle.ibm1620_cli.specs.declared.answer.Answer.{Answer}
 use Rattle.ibm1620_cli.specs.Promise.{job_with_report, texts_alone, Promise, KeepsPromise, KeepsJob, nothing_done}
 use Rattle.ibm1620_cli.specs.Source.{assembled_source, card_count, made_of, made_events, source_promise}
 
@@ -34,8 +35,8 @@ assemble_promise m form = source_promise m nothing_done (written_promise m form)
 abbrev pub status_of_assembled : assembled.Assembled → ℕ → Status
 status_of_assembled a cards = Assembled (length a.placed) (digit_count a.image.pieces) cards
 
-abbrev pub WrittenPromise : ℕ → DeckForm → List ℕ → Seen → Seen → Status → Type 0
+abbrev pub WrittenPromise : ℕ → DeckForm → List ℕ → Seen → Seen → Answer → Type 0
 WrittenPromise m form source old new answer = KeepsPromise (written_promise m form source old.world) old new answer
 
-abbrev pub AssemblyPromise : ℕ → DeckForm → Seen → Seen → Status → Type 0
+abbrev pub AssemblyPromise : ℕ → DeckForm → Seen → Seen → Answer → Type 0
 AssemblyPromise m form old new answer = KeepsJob (assemble_promise m form) old new answer

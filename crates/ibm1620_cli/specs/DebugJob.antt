@@ -1,9 +1,10 @@
 -- The job debug: the script, the commands and the source are read, the source is assembled, its texts are written, the Load key is
 -- pressed over its deck, and the session begins there.
-use Rattle.std.specs.Prelude.{ℕ, List, Some, Result, Ok, Err}
+use Rattle.std.specs.Prelude.{ℕ, List, map, Some, Result, Ok, Err}
 use Rattle.outside_io.specs.declared.host.Unit.TheVariants as units
 use Rattle.outside_io.specs.World.{World, Seen}
 use Rattle.digit_core.specs.Size.{size}
+use Rattle.card_code.specs.Entries.{Text}
 use Rattle.cpu_step.specs.Load.{load_key}
 use Rattle.cpu_step.specs.Outside.{load_events}
 use Rattle.operator_script.specs.declared.script.Script.{Script}
@@ -16,6 +17,7 @@ use Rattle.console_debug.specs.Grammar.{commands_of}
 use Rattle.deck_punch.specs.declared.form.DeckForm.{DeckForm}
 use Rattle.ibm1620_cli.specs.declared.status.Status.{Status}
 use Rattle.ibm1620_cli.specs.declared.status.Status.TheVariants.{BadCommand}
+use Rattle.ibm1620_cli.specs.declared.answer.Answer.{Answer}
 use Rattle.ibm1620_cli.specs.Promise.{Promise, KeepsPromise, KeepsJob, read_promise}
 use Rattle.ibm1620_cli.specs.Reading.{read_within}
 use Rattle.ibm1620_cli.specs.Turns.{Feed, feed_at, lines_of_feed, SetUp, state_over, first_over, LoadedMachine}
@@ -45,6 +47,9 @@ keyed_program p feed punched typed = load_key (set_up_at_power_on p feed punched
 -- so it is loaded, over the texts of a world: the session begins at the deck's first card
 abbrev pub keyed_over : Program → World → List ScriptLine → Feed → LoadedMachine
 keyed_over p w lines feed = record {
+  powered = state_over w (set_up_at_power_on p feed);
+  steps = 0;
+  pile = map Text (deck_of p);
   cards = cards_before (deck_of p) feed;
   keys = lines_of_feed feed;
   taken = load_events (state_over w (set_up_at_power_on p feed));
@@ -85,18 +90,18 @@ debug_promise m form limit =
 
 -- What the functions of this job answer.
 
-abbrev pub DebugsAssembled : ℕ → DeckForm → ℕ → Script → Commands → List ℕ → Seen → Seen → Status → Type 0
+abbrev pub DebugsAssembled : ℕ → DeckForm → ℕ → Script → Commands → List ℕ → Seen → Seen → Answer → Type 0
 DebugsAssembled m form limit script commands source old new answer =
     let promise = debugged_promise m form limit (lines_left script) (command_list commands) source old.world in
     KeepsPromise promise old new answer
 
-abbrev pub DebugsBy : ℕ → DeckForm → ℕ → Script → Commands → Seen → Seen → Status → Type 0
+abbrev pub DebugsBy : ℕ → DeckForm → ℕ → Script → Commands → Seen → Seen → Answer → Type 0
 DebugsBy m form limit script commands old new answer =
     KeepsJob (commands_promise m form limit (lines_left script) (command_list commands)) old new answer
 
-abbrev pub DebugsUnder : ℕ → DeckForm → ℕ → Script → Seen → Seen → Status → Type 0
+abbrev pub DebugsUnder : ℕ → DeckForm → ℕ → Script → Seen → Seen → Answer → Type 0
 DebugsUnder m form limit script old new answer =
     KeepsJob (lines_promise m form limit (lines_left script)) old new answer
 
-abbrev pub DebugsSource : ℕ → DeckForm → ℕ → Seen → Seen → Status → Type 0
+abbrev pub DebugsSource : ℕ → DeckForm → ℕ → Seen → Seen → Answer → Type 0
 DebugsSource m form limit old new answer = KeepsJob (debug_promise m form limit) old new answer

@@ -9,6 +9,7 @@ use Rattle.disk_loader.specs.Bootstrap.{bootstrap}
 use Rattle.disk_loader.specs.Writes.{SectorText, image_sectors, world_after}
 use Rattle.ibm1620_cli.specs.declared.status.Status.{Status}
 use Rattle.ibm1620_cli.specs.declared.status.Status.TheVariants.{Placed}
+use Rattle.ibm1620_cli.specs.declared.answer.Answer.{Answer}
 use Rattle.ibm1620_cli.specs.Promise.{job_with_report, texts_alone, Promise, KeepsPromise, KeepsJob, nothing_done}
 use Rattle.outside_io.specs.Events.{Event, WriteSector, text_events, DidPart}
 use Rattle.ibm1620_cli.specs.Source.{assembled_source, deck_text, source_promise}
@@ -96,8 +97,8 @@ placing_with deck a = record {
   sectors = image_sectors a.image.pieces;
 }
 
-abbrev pub PlacingPromise : ℕ → List ℕ → Seen → Seen → Status → Type 0
+abbrev pub PlacingPromise : ℕ → List ℕ → Seen → Seen → Answer → Type 0
 PlacingPromise m source old new answer = KeepsPromise (placing_promise m source old.world) old new answer
 
-abbrev pub DiskPromise : ℕ → Seen → Seen → Status → Type 0
+abbrev pub DiskPromise : ℕ → Seen → Seen → Answer → Type 0
 DiskPromise m old new answer = KeepsJob (disk_promise m) old new answer

@@ -4,7 +4,7 @@ use Rattle.outside_io.specs.declared.host.Unit.TheVariants as units
 use Rattle.outside_io.specs.World.{World, Seen}
 use Rattle.outside_io.specs.Events.{text_events}
 use Rattle.sps_generator.specs.Generated.{source_deck}
-use Rattle.ibm1620_cli.specs.declared.status.Status.{Status}
+use Rattle.ibm1620_cli.specs.declared.answer.Answer.{Answer}
 use Rattle.ibm1620_cli.specs.declared.status.Status.TheVariants.{Generated}
 use Rattle.ibm1620_cli.specs.Promise.{job_with_report, texts_alone, Promise, KeepsPromise}
 
@@ -18,5 +18,5 @@ generate_promise statements number w = record {
 }
 
 -- what the job answers
-abbrev pub MakesSource : ℕ → ℕ → Seen → Seen → Status → Type 0
+abbrev pub MakesSource : ℕ → ℕ → Seen → Seen → Answer → Type 0
 MakesSource statements number old new answer = KeepsPromise (generate_promise statements number old.world) old new answer

@@ -8,7 +8,7 @@ use Rattle.digit_core.specs.Size.{size}
 use Rattle.operator_script.specs.declared.script.ScriptLine.{ScriptLine}
 use Rattle.operator_script.specs.Script.{script_of}
 use Rattle.sps_pass_two.specs.Broken.{refusal_of}
-use Rattle.ibm1620_cli.specs.declared.status.Status.{Status}
+use Rattle.ibm1620_cli.specs.declared.answer.Answer.{Answer}
 use Rattle.ibm1620_cli.specs.declared.status.Status.TheVariants.{OutOfMemory}
 use Rattle.command_line.specs.declared.words.Command.TheVariants.{Run}
 use Rattle.command_line.specs.Words.{Names, Said, plain}
@@ -17,8 +17,8 @@ use Rattle.command_line.specs.declared.words.CoreSize.{CoreSize}
 use Rattle.ibm1620_cli.specs.Job.{modules_of, bind_events}
 use Rattle.ibm1620_cli.specs.Binding.{all_bound}
 use Rattle.ibm1620_cli.specs.Promise.{Job, job_behind, Ends}
-use Rattle.ibm1620_cli.specs.Turns.{Feed, feed_at, first_over, turns_job, ends_a_run}
-use Rattle.ibm1620_cli.specs.Program.{Program, deck_of, loaded_by, LoadsItself, set_up_after_load, set_up_at_start}
+use Rattle.ibm1620_cli.specs.Turns.{Feed, feed_at, state_over, first_over, turns_job, ends_a_run}
+use Rattle.ibm1620_cli.specs.Program.{Program, deck_of, loaded_by, LoadsItself, set_up_at_power_on, set_up_after_load, set_up_at_start}
 use Rattle.ibm1620_cli.specs.LoadJob.{longest_script}
 use Rattle.ibm1620_cli.specs.Source.{program_of, made_of, made_events, longest_source}
 
@@ -71,28 +71,28 @@ program_in r = program_of (modules_of r.core) r.form r.source
 abbrev pub job_in : {words : List (List ℕ)} {w : World} → SoundRun words w → Job
 job_in {w = w} r =
     let made = made_events (made_of (modules_of r.core) r.form r.source) in
+    let powered = state_over (all_bound r.names w) (set_up_at_power_on (program_in r) r.feed) in
     let first = first_over (all_bound r.names w) (set_up_at_start (program_in r) r.feed) r.lines in
-    let deck = deck_of (program_in r) in
-    job_behind (bind_events all_units r.names) (turns_job (Some deck) made r.limit (loaded_by deck r.feed first))
+    job_behind (bind_events all_units r.names) (turns_job (Some (deck_of (program_in r))) made r.limit (loaded_by (program_in r) r.feed powered first))
 
 -- What the program of a sound run does, under its script and up to its limit:
 --   loads: the Load key over its deck, and the deck's steps, leave over any core the image over both standard tables, and enter the start;
 --       outside they take the deck's cards, and do nothing else;
 --   enters: so does the program's own machine, the data cards being in its hopper;
---   does: the status is that of the turns from there on, all of their job was done, thing by thing, and Data and Keys have what the machine
---       of the last place leaves of them;
+--   does: the status is that of the turns from there on, all of their job was done, thing by thing, Data and Keys have what the machine
+--       of the last place leaves of them, and the console is that of this place;
 --   texts: so each told text has the very bytes that the job writes on its unit;
 --   ending: the status is one of the six with which a run ends.
-pub record DoesProgram {words : List (List ℕ)} (old : Seen) (r : SoundRun words old.world) (new : Seen) (answer : Status)
+pub record DoesProgram {words : List (List ℕ)} (old : Seen) (r : SoundRun words old.world) (new : Seen) (answer : Answer)
     : Type 0 where
   pub loads : LoadsItself (program_in r)
   pub enters : set_up_after_load (program_in r) r.feed ≡ set_up_at_start (program_in r) r.feed
   pub does : Ends (job_in r) old new answer
   pub texts : (u : unit.Unit) → IfSome (new.world.written u) (λ text. text ≡ bytes_in u (job_in r).events)
-  pub ending : ends_a_run answer ≡ true
+  pub ending : ends_a_run answer.status ≡ true
 
 -- A sound run, in which no call of the host failed and memory was found, does the program of its source.
-abbrev pub Headline : List (List ℕ) → Seen → Seen → Status → Type 0
+abbrev pub Headline : List (List ℕ) → Seen → Seen → Answer → Type 0
 Headline words old new answer =
-    (r : SoundRun words old.world) → (Rose old.faults new.faults → ⊥) → answer ≢ OutOfMemory
+    (r : SoundRun words old.world) → (Rose old.faults new.faults → ⊥) → answer.status ≢ OutOfMemory
     → DoesProgram old r new answer

@@ -6,6 +6,7 @@ use Rattle.outside_io.specs.declared.host.Unit.TheVariants as units
 use Rattle.outside_io.specs.World.{World, Seen, all_units}
 use Rattle.outside_io.specs.Events.{Event, BindFile}
 use Rattle.ibm1620_cli.specs.declared.status.Status.{Status}
+use Rattle.ibm1620_cli.specs.declared.answer.Answer.{Answer}
 use Rattle.ibm1620_cli.specs.declared.status.Status.TheVariants.{Usage, OutOfMemory}
 use Rattle.command_line.specs.declared.words.Command.{Command}
 use Rattle.command_line.specs.declared.words.Command.TheVariants.{Assemble, Load, Run, Debug, Generate, Trial, Disk}
@@ -14,7 +15,7 @@ use Rattle.command_line.specs.declared.words.CoreSize.TheVariants.{OneModule, Tw
 use Rattle.command_line.specs.Words.{Names, Said, plain, names_of}
 use Rattle.ibm1620_cli.specs.Binding.{all_bound, BindsNamed}
 use Rattle.ibm1620_cli.specs.Inputs.{EndsOnce, reads_nothing, reads_source, reads_feed, placing_reads, load_reads, run_reads, debug_reads}
-use Rattle.ibm1620_cli.specs.Promise.{job_with_report, texts_alone, Promise, promise_behind, KeepsPromise, KeepsFrom, KeepsJob}
+use Rattle.ibm1620_cli.specs.Promise.{answer_of, job_with_report, texts_alone, Promise, promise_behind, KeepsPromise, KeepsFrom, KeepsJob}
 use Rattle.ibm1620_cli.specs.AssembleJob.{assemble_promise}
 use Rattle.ibm1620_cli.specs.LoadJob.{load_promise}
 use Rattle.ibm1620_cli.specs.RunJob.{run_promise}
@@ -69,11 +70,11 @@ abbrev pub usage_promise : Promise
 usage_promise = record { job = Some (job_with_report Usage []); made = texts_alone (Some []); usage = true }
 
 -- what plain words say, from the world at the entry
-abbrev pub DoesSaid : Said → Seen → Seen → Status → Type 0
+abbrev pub DoesSaid : Said → Seen → Seen → Answer → Type 0
 DoesSaid said old new answer = KeepsFrom (said_promise said) (all_bound said.names old.world) old new answer
 
 -- WHAT THE PROGRAM DOES: for plain words what they say
-abbrev pub DoesWords : Option Said → Seen → Seen → Status → Type 0
+abbrev pub DoesWords : Option Said → Seen → Seen → Answer → Type 0
 DoesWords None old new answer = KeepsPromise usage_promise old new answer
 DoesWords (Some said) old new answer = DoesSaid said old new answer
 
@@ -82,15 +83,21 @@ abbrev pub word_bytes : List (String Global) → List (List ℕ)
 word_bytes words = map string_bytes words
 
 -- plain words, and no memory to read them: nothing at all was done
-pub record LacksWords (words : List (List ℕ)) (old new : Seen) (answer : Status) : Type 0 where
+pub record LacksWords (words : List (List ℕ)) (old new : Seen) (status : Status) : Type 0 where
   pub are_plain : is_some (plain words) ≡ true
-  pub status : answer ≡ OutOfMemory
+  pub lacks : status ≡ OutOfMemory
   pub nothing : new ≡ old
 
--- what the program answers: texts and sectors are those of one moment of what it does
-abbrev pub Tells : List (List ℕ) → Seen → Seen → Status → Type 0
+-- what the program answers: texts, sectors and console are those of one moment of what it does
+abbrev pub Tells : List (List ℕ) → Seen → Seen → Answer → Type 0
 Tells words old new answer =
-    DoesWords (plain words) old new answer ⊎ LacksWords words old new answer
+    DoesWords (plain words) old new answer ⊎ (LacksWords words old new answer.status × (answer ≡ answer_of OutOfMemory))
+
+-- a status is that of an answer of which this holds
+pub record IsStatusOf (status : Status) (Holds : Answer → Type 0) : Type 0 where
+  pub answer : Answer
+  pub is : status ≡ answer.status
+  pub holds : Holds answer
 
 -- which files it binds to which units
 abbrev pub BindsSaid : List (List ℕ) → Seen → Seen → Status → Type 0
@@ -126,8 +133,8 @@ abbrev pub BindsFiles : Said → Seen → Seen → Status → Type 0
 BindsFiles said old new answer = BindsNamed said.names old.world new.world answer
 
 -- once the files are bound, by a machine with so many modules of core
-abbrev pub DoesJobIn : ℕ → Said → Seen → Seen → Status → Type 0
+abbrev pub DoesJobIn : ℕ → Said → Seen → Seen → Answer → Type 0
 DoesJobIn m said old new answer = KeepsJob (job_promise m said.command said) old new answer
 
-abbrev pub DoesJob : Said → Seen → Seen → Status → Type 0
+abbrev pub DoesJob : Said → Seen → Seen → Answer → Type 0
 DoesJob said old new answer = DoesJobIn (modules_of said.core) said old new answer

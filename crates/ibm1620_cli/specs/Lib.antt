@@ -1,6 +1,7 @@
 pub mod Report
 pub mod Binding
 pub mod Makings
+pub mod Ways
 pub mod Promise
 pub mod Reading
 pub mod Inputs

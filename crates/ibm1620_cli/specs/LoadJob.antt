@@ -3,7 +3,7 @@ use Rattle.std.specs.Prelude.{ℕ, List, [], Option, None, Result, Ok, Err, opti
 use Rattle.digit_core.specs.Size.{size}
 use Rattle.outside_io.specs.declared.host.Unit.TheVariants as units
 use Rattle.outside_io.specs.World.{World, Seen}
-use Rattle.card_code.specs.Entries.{Entry, hopper_of}
+use Rattle.card_code.specs.Entries.{Entry, entries_of_unit, hopper_of}
 use Rattle.cpu_step.specs.Load.{load_key}
 use Rattle.cpu_step.specs.Outside.{load_events}
 use Rattle.operator_script.specs.declared.script.Script.{Script}
@@ -12,6 +12,7 @@ use Rattle.operator_script.specs.Script.{script_of}
 use Rattle.operator_script.specs.Scripts.{lines_left}
 use Rattle.ibm1620_cli.specs.declared.status.Status.{Status}
 use Rattle.ibm1620_cli.specs.declared.status.Status.TheVariants.{BadScript}
+use Rattle.ibm1620_cli.specs.declared.answer.Answer.{Answer}
 use Rattle.ibm1620_cli.specs.Promise.{Promise, KeepsPromise, KeepsJob, read_promise, nothing_done}
 use Rattle.ibm1620_cli.specs.Reading.{read_within}
 use Rattle.ibm1620_cli.specs.Turns.{Feed, feed_at, state_over_feed, lines_of_feed, SetUp, state_over, first_over, LoadedMachine, turns_promise}
@@ -42,6 +43,9 @@ state_after_load_key m l punched typed = load_key (powered_to_load m l punched t
 -- so it is loaded, over the texts of a world: the turns begin at the first card
 abbrev pub keyed_machine : ℕ → World → List ScriptLine → Loading → LoadedMachine
 keyed_machine m w lines l = record {
+  powered = state_over w (powered_to_load m l);
+  steps = 0;
+  pile = entries_of_unit units.Deck 0 l.deck;
   cards = cards_to_load l;
   keys = lines_of_feed l.feed;
   taken = load_events (state_over w (powered_to_load m l));
@@ -72,9 +76,9 @@ load_promise m limit = read_promise units.Script (script_read m) nothing_done (l
 
 -- What the functions of this job answer.
 
-abbrev pub LoadedPromise : ℕ → ℕ → Script → Seen → Seen → Status → Type 0
+abbrev pub LoadedPromise : ℕ → ℕ → Script → Seen → Seen → Answer → Type 0
 LoadedPromise m limit script old new answer =
     KeepsPromise (loaded_promise m limit (lines_left script) old.world) old new answer
 
-abbrev pub LoadPromise : ℕ → ℕ → Seen → Seen → Status → Type 0
+abbrev pub LoadPromise : ℕ → ℕ → Seen → Seen → Answer → Type 0
 LoadPromise m limit old new answer = KeepsJob (load_promise m limit) old new answer

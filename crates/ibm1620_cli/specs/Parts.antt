@@ -1,5 +1,5 @@
 -- What the parts of the program do.
-use Rattle.std.specs.Prelude.{◌≡◌, ◌≤◌, ◌⊎◌, ℕ, Bool, true, false, List, [], length, map, All, Option, Some, None, IfSome, Result, Ok, Err, Vec}
+use Rattle.std.specs.Prelude.{◌≡◌, ◌≢◌, ◌≤◌, ◌⊎◌, ℕ, Bool, true, false, List, [], length, map, All, Option, Some, None, IfSome, Result, Ok, Err, Vec}
 use Rattle.std.specs.declared.alloc.Global.{Global}
 use Rattle.outside_io.specs.declared.host.Unit as unit
 use Rattle.outside_io.specs.declared.host.Unit.TheVariants as units
@@ -12,6 +12,7 @@ use Rattle.card_unit.specs.declared.hopper.Hopper.{Hopper}
 use Rattle.cpu_step.specs.declared.machine.Machine.{Machine}
 use Rattle.cpu_step.specs.Load.{load_key, load_cut}
 use Rattle.cpu_step.specs.Machine.{IsPowered, Makes, Breaks}
+use Rattle.cpu_step.specs.Console.{shown_on}
 use Rattle.operator_script.specs.declared.turns.Ending.{Ending}
 use Rattle.operator_script.specs.declared.script.Script.{Script}
 use Rattle.operator_script.specs.Run.{moment, RunsOut, BreaksOff, Runs}
@@ -25,6 +26,7 @@ use Rattle.sps_pass_two.specs.declared.assembled.AsmFault.TheVariants.{Broken}
 use Rattle.sps_pass_two.specs.Assembled.{PlacedText}
 use Rattle.sps_pass_two.specs.Assembling.{Assembles, IsAssembled}
 use Rattle.sps_listing.specs.Texts.{image_text, refusal_line}
+use Rattle.sps_listing.specs.Refused.{refused_text}
 use Rattle.sps_listing.specs.Listing.{listing_text, placed_texts}
 use Rattle.console_debug.specs.declared.commands.Commands.{Commands}
 use Rattle.console_debug.specs.CommandLists.{IsCommand, HasRoom, command_list}
@@ -32,11 +34,12 @@ use Rattle.console_debug.specs.Debugs.{task, without_count, EndsSession, BreaksS
 use Rattle.deck_punch.specs.declared.form.DeckForm.{DeckForm}
 use Rattle.loader_cards.specs.ObjectDeck.{fewest_in}
 use Rattle.ibm1620_cli.specs.declared.status.Status.{Status}
+use Rattle.ibm1620_cli.specs.declared.answer.Answer.{Answer}
 use Rattle.ibm1620_cli.specs.declared.status.Status.TheVariants.{Refused, HostFault, OutOfMemory, SessionEnded}
 use Rattle.ibm1620_cli.specs.Inputs.{reads_feed, EndsOnce}
 use Rattle.ibm1620_cli.specs.Report.{report_line}
 use Rattle.ibm1620_cli.specs.Turns.{status_of}
-use Rattle.ibm1620_cli.specs.Promise.{is_own, is_usage}
+use Rattle.ibm1620_cli.specs.Promise.{is_own, is_usage, answer_of, ShowsRefusal}
 use Rattle.ibm1620_cli.specs.Program.{deck_of, KeepsProgramPromise}
 use Rattle.ibm1620_cli.specs.declared.source.SoundSource.{SoundSource}
 use Rattle.ibm1620_cli.specs.Reading.{text_read}
@@ -51,14 +54,21 @@ ReportsAs old new status line answer =
     ((answer ≡ status) × Goes old new (world_after_put units.Report line old.world))
     ⊎ ((answer ≡ HostFault) × Stops old new units.Report line)
 
--- a refusal is reported: the statement, the rule that it breaks, and what breaks it there
-abbrev pub Refuses : List ℕ → ℕ → Rule → Option ℕ → Seen → Seen → Status → Type 0
-Refuses source statement rule part old new answer =
-    ReportsAs old new (Refused statement rule) (refusal_line source statement rule part) answer
+-- a refusal is reported, and shown: the statement, the rule that it breaks, and what breaks it there; nothing is shown where the host failed
+pub record Refuses (source : List ℕ) (statement : ℕ) (rule : Rule) (part : Option ℕ) (old new : Seen) (answer : Answer) : Type 0 where
+  pub reports : ReportsAs old new (Refused statement rule) (refusal_line source statement rule part) answer.status
+  pub console : answer.console ≡ None
+  pub shows : answer.status ≢ HostFault → ShowsRefusal (Some (refused_text source statement rule part)) answer.refusal
+  pub unshown : answer.status ≡ HostFault → answer.refusal ≡ None
 
 -- the report line of a status
 abbrev pub Reports : Seen → Seen → Status → Status → Type 0
 Reports old new status answer = ReportsAs old new status (report_line status) answer
+
+-- nothing belongs to the answer but the status
+pub record IsAlone (answer : Answer) : Type 0 where
+  pub console : answer.console ≡ None
+  pub refusal : answer.refusal ≡ None
 
 -- the same units are in use, bound to the same names; inputs that are not read keep all that they had, and are not asked; one that no machine
 -- works with is found to have no more once at most; and a pack that is not worked with keeps what it had
@@ -123,24 +133,24 @@ abbrev pub IsSound : ℕ → SoundSource → Type 0
 IsSound m sound = IsAssembled (size m) sound.source.items sound.assembled
 
 -- A source is refused: its first broken statement is reported. Or there was no memory.
-pub data RefusesSource (m : ℕ) (source : List ℕ) (old new : Seen) (answer : Status) : Type 0 where
+pub data RefusesSource (m : ℕ) (source : List ℕ) (old new : Seen) (answer : Answer) : Type 0 where
   breaks : (statement : ℕ) (rule : Rule) (part : Option ℕ) → Assembles (size m) source (Err (Broken statement rule part))
       → Refuses source statement rule part old new answer → RefusesSource m source old new answer
-  no_memory : answer ≡ OutOfMemory → new ≡ old → RefusesSource m source old new answer
+  no_memory : answer ≡ answer_of OutOfMemory → new ≡ old → RefusesSource m source old new answer
 
 -- a source is assembled, and nothing is done outside; or it is refused, and the error is the answer of the job
-abbrev pub AssemblesOrRefuses : ℕ → List ℕ → Seen → Seen → Result SoundSource Status → Type 0
+abbrev pub AssemblesOrRefuses : ℕ → List ℕ → Seen → Seen → Result SoundSource Answer → Type 0
 AssemblesOrRefuses m source old new (Ok sound) = (sound.source.items ≡ source) × IsSound m sound × (new ≡ old)
 AssemblesOrRefuses m source old new (Err answer) = RefusesSource m source old new answer
 
 -- a job ends because it has no source, or one that is refused
-pub data EndsAtSource (m : ℕ) (old new : Seen) (answer : Status) : Type 0 where
-  without : (mid : Seen) (s : Status) → Unread units.Source source_read old mid s → Reports mid new s answer → EndsAtSource m old new answer
+pub data EndsAtSource (m : ℕ) (old new : Seen) (answer : Answer) : Type 0 where
+  without : (mid : Seen) (s : Status) → Unread units.Source source_read old mid s → Reports mid new s answer.status → IsAlone answer → EndsAtSource m old new answer
   with_broken : (mid : Seen) (source : List ℕ) → TakesFrom units.Source old mid (λ text. source_read text ≡ Ok source)
       → RefusesSource m source mid new answer → EndsAtSource m old new answer
 
 -- the source is read and assembled, or the job has ended with the error
-abbrev pub ReadsSource : ℕ → Seen → Seen → Result SoundSource Status → Type 0
+abbrev pub ReadsSource : ℕ → Seen → Seen → Result SoundSource Answer → Type 0
 ReadsSource m old new (Ok sound) =
     TakesFrom units.Source old new (λ text. source_read text ≡ Ok sound.source.items) × IsSound m sound
 ReadsSource m old new (Err answer) = EndsAtSource m old new answer
@@ -181,12 +191,17 @@ WritesSource m form source old new (Err s) =
     ⊎ ((s ≡ HostFault) × EventsOccur (made_events (made_of m form source)) old new sent.Failed)
 
 -- the promise of each program for so many modules of core that has these cards as its deck in a form is kept
-abbrev pub ProgramPromise : ℕ → DeckForm → ℕ → Vec Card Global → Script → Seen → Seen → Status → Type 0
+abbrev pub ProgramPromise : ℕ → DeckForm → ℕ → Vec Card Global → Script → Seen → Seen → Answer → Type 0
 ProgramPromise m form limit cards script old new answer =
     KeepsProgramPromise m form limit (map card_bytes cards.items) (lines_left script) old new answer
 
--- the turns of a machine under a script, up to a limit, end somehow after some steps, and the status of that is reported
-pub record TakesTurns (m limit : ℕ) (machine : Machine m) (script : Script) (old new : Seen) (answer : Status)
+-- the answer shows the console of a machine, and no statement
+pub record ShowsMachine (m : ℕ) (machine : Machine m) (answer : Answer) : Type 0 where
+  pub console : answer.console ≡ Some (shown_on m machine)
+  pub refusal : answer.refusal ≡ None
+
+-- the turns of a machine under a script, up to a limit, end somehow after some steps, and the status of that is reported, and the console shown
+pub record TakesTurns (m limit : ℕ) (machine : Machine m) (script : Script) (old new : Seen) (answer : Answer)
     : Type 0 where
   pub left : Machine m
   pub left_script : Script
@@ -194,7 +209,8 @@ pub record TakesTurns (m limit : ℕ) (machine : Machine m) (script : Script) (o
   pub how : Ending
   pub mid : Seen
   pub runs : Runs m limit (moment m machine script 0 old) (moment m left left_script steps mid) how
-  pub reports : Reports mid new (status_of steps how) answer
+  pub reports : Reports mid new (status_of steps how) answer.status
+  pub shows : ShowsMachine m left answer
 
 -- a machine was powered on over a hopper, and the host failed in its Load key
 pub record BreaksKey (m : ℕ) (hopper : Hopper) (old new : Seen) : Type 0 where
@@ -229,33 +245,34 @@ pub record MakesSteps (m steps : ℕ) (keyed left : Machine m) (old new : Seen) 
   pub out : RunsOut m steps (moment m keyed none 0 old) (moment m left left_script made new) how
 
 -- a machine is powered on over a hopper, its Load key is pressed, so many steps are made without a script, and then the turns are taken
--- under the script, up to the limit; or no memory was found, and nothing is done; or the host failed in the key or in the steps
-pub data Executes (m steps limit : ℕ) (hopper : Hopper) (script : Script) (old new : Seen) (answer : Status)
+-- under the script, up to the limit; or no memory was found, and nothing is done; or the host failed in the key or in the steps, where the console
+-- is shown
+pub data Executes (m steps limit : ℕ) (hopper : Hopper) (script : Script) (old new : Seen) (answer : Answer)
     : Type 0 where
-  lacks_memory : answer ≡ OutOfMemory → new ≡ old → Executes m steps limit hopper script old new answer
-  breaks_key : answer ≡ HostFault → BreaksKey m hopper old new → Executes m steps limit hopper script old new answer
-  breaks_steps : (pressed : Seen) (key : PressesKey m hopper old pressed) → answer ≡ HostFault
-      → BreaksSteps m steps key.keyed pressed new → Executes m steps limit hopper script old new answer
+  lacks_memory : answer ≡ answer_of OutOfMemory → new ≡ old → Executes m steps limit hopper script old new answer
+  breaks_key : answer.status ≡ HostFault → (broke : BreaksKey m hopper old new) → ShowsMachine m broke.keyed answer → Executes m steps limit hopper script old new answer
+  breaks_steps : (pressed : Seen) (key : PressesKey m hopper old pressed) → answer.status ≡ HostFault
+      → (broke : BreaksSteps m steps key.keyed pressed new) → ShowsMachine m broke.left answer → Executes m steps limit hopper script old new answer
   takes_turns : (pressed ready_at : Seen) (key : PressesKey m hopper old pressed) (ready : Machine m)
       → MakesSteps m steps key.keyed ready pressed ready_at → TakesTurns m limit ready script ready_at new answer
       → Executes m steps limit hopper script old new answer
 
 -- a machine is powered on over a hopper, its Load key is pressed, the commands are carried out from there, and the end of the session is
--- reported; or no memory was found, and nothing is done; or the host failed in the key or in the session
+-- reported; or no memory was found, and nothing is done; or the host failed in the key or in the session; the console is shown
 pub data HoldsSession (m limit : ℕ) (placed : List PlacedText) (hopper : Hopper) (script : Script)
-    (commands : Commands) (old new : Seen) (answer : Status) : Type 0 where
-  lacks_memory : answer ≡ OutOfMemory → new ≡ old → HoldsSession m limit placed hopper script commands old new answer
-  breaks_key : answer ≡ HostFault → BreaksKey m hopper old new
+    (commands : Commands) (old new : Seen) (answer : Answer) : Type 0 where
+  lacks_memory : answer ≡ answer_of OutOfMemory → new ≡ old → HoldsSession m limit placed hopper script commands old new answer
+  breaks_key : answer.status ≡ HostFault → (broke : BreaksKey m hopper old new) → ShowsMachine m broke.keyed answer
       → HoldsSession m limit placed hopper script commands old new answer
   breaks_session : (pressed : Seen) (key : PressesKey m hopper old pressed) (left : Machine m)
-      (left_script : Script) → answer ≡ HostFault
+      (left_script : Script) → answer.status ≡ HostFault → ShowsMachine m left answer
       → BreaksSession m (task limit placed (command_list commands))
       (moment m key.keyed script 0 pressed) (without_count m left left_script new)
       → HoldsSession m limit placed hopper script commands old new answer
   ends_session : (pressed mid : Seen) (key : PressesKey m hopper old pressed) (left : Machine m)
       (left_script : Script) (breaks : List ℕ)
       → EndsSession m (task limit placed (command_list commands)) (moment m key.keyed script 0 pressed)
-      (without_count m left left_script mid) breaks → Reports mid new SessionEnded answer
+      (without_count m left left_script mid) breaks → Reports mid new SessionEnded answer.status → ShowsMachine m left answer
       → HoldsSession m limit placed hopper script commands old new answer
 
 -- a line is added behind the report line of a status that counts steps, or the host failed after a part of it; for other statuses nothing

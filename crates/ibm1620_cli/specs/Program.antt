@@ -1,6 +1,6 @@
 -- A program: its image, its start, the form of its deck and the size of its core; its deck; and the state in which its first instruction
 -- is to be carried out.
-use Rattle.std.specs.Prelude.{ℕ, ◌≡◌, ◌<◌, ◌≤◌, List, [], length, replicate, Option, Some}
+use Rattle.std.specs.Prelude.{ℕ, ◌≡◌, ◌<◌, ◌≤◌, List, [], length, map, replicate, Option, Some}
 use Rattle.std.specs.List.{All}
 use Rattle.outside_io.specs.declared.host.Unit.TheVariants as units
 use Rattle.outside_io.specs.World.{World, Seen}
@@ -8,9 +8,10 @@ use Rattle.digit_core.specs.{zero_cell, size}
 use Rattle.digit_core.specs.Size.{IsSize}
 use Rattle.indicators.specs.Panel.{dark, set}
 use Rattle.disk_1311.specs.declared.TheConstants.{DRIVES}
-use Rattle.card_code.specs.Entries.{Entry, hopper_of, entries_of_unit, is_empty}
+use Rattle.card_code.specs.Entries.{Entry, Text, hopper_of, entries_of_unit, is_empty}
 use Rattle.indicators.specs.declared.codes.TheConstants.{LAST_CARD}
 use Rattle.cpu_step.specs.declared.machine.Mode.TheVariants.{Running}
+use Rattle.cpu_step.specs.State.{State}
 use Rattle.cpu_step.specs.Load.{load_key}
 use Rattle.operator_script.specs.declared.script.ScriptLine.{ScriptLine}
 use Rattle.operator_script.specs.Turn.{RunPlace}
@@ -20,10 +21,10 @@ use Rattle.loader_cards.specs.ObjectDeck.{deck_in, steps_in}
 use Rattle.deck_punch.specs.Overlay.{overlay}
 use Rattle.loader_cards.specs.Loads.{Loads}
 use Rattle.card_steps.specs.Steps.{after_steps, deck_taken}
-use Rattle.ibm1620_cli.specs.declared.status.Status.{Status}
+use Rattle.ibm1620_cli.specs.declared.answer.Answer.{Answer}
 use Rattle.outside_io.specs.Events.{Event}
 use Rattle.ibm1620_cli.specs.Promise.{Promise, KeepsPromise}
-use Rattle.ibm1620_cli.specs.Turns.{Feed, feed_at, state_over_feed, lines_of_feed, SetUp, first_in, first_over, LoadedMachine, turns_job, turns_promise}
+use Rattle.ibm1620_cli.specs.Turns.{Feed, feed_at, state_over_feed, lines_of_feed, SetUp, state_over, first_in, first_over, LoadedMachine, turns_job, turns_promise}
 
 -- what a source deck without a broken rule comes to, the form in which its object deck is punched, and how many modules of core it is for
 pub record Program : Type 0 where
@@ -80,19 +81,27 @@ set_up_at_start p feed punched typed = record {
   mode = Running;
 }
 
--- a machine whose turns begin at a place, once the cards of a deck were taken
-abbrev pub loaded_by : List (List ℕ) → Feed → RunPlace → LoadedMachine
-loaded_by deck feed first = record { cards = cards_before deck feed; keys = lines_of_feed feed; taken = deck_taken deck; first = first }
+-- a machine of a program that was powered on in a state, and whose turns begin at a place, once the cards of its deck were taken
+abbrev pub loaded_by : Program → Feed → State → RunPlace → LoadedMachine
+loaded_by p feed powered first = record {
+  powered = powered;
+  steps = steps_of_deck p;
+  pile = map Text (deck_of p);
+  cards = cards_before (deck_of p) feed;
+  keys = lines_of_feed feed;
+  taken = deck_taken (deck_of p);
+  first = first;
+}
 
 -- THE PROMISE OF A PROGRAM, whose deck is loaded first, which takes its cards and does nothing else outside, and whose turns begin at its
 -- first instruction
 abbrev pub program_promise : List Event → ℕ → List ScriptLine → Program → World → Promise
 program_promise before limit lines p w =
     turns_promise (Some (deck_of p)) before limit
-    (λ feed. loaded_by (deck_of p) feed (first_over w (set_up_after_load p feed) lines)) (feed_at w)
+    (λ feed. loaded_by p feed (state_over w (set_up_at_power_on p feed)) (first_over w (set_up_after_load p feed) lines)) (feed_at w)
 
 -- the promise of each program for so many modules of core that has this deck in this form is kept
-abbrev pub KeepsProgramPromise : ℕ → DeckForm → ℕ → List (List ℕ) → List ScriptLine → Seen → Seen → Status → Type 0
+abbrev pub KeepsProgramPromise : ℕ → DeckForm → ℕ → List (List ℕ) → List ScriptLine → Seen → Seen → Answer → Type 0
 KeepsProgramPromise m form limit cards lines old new answer =
     (p : Program) → Fits p → p.modules ≡ m → p.form ≡ form → cards ≡ deck_of p
     → KeepsPromise (program_promise [] limit lines p old.world) old new answer
@@ -102,5 +111,6 @@ KeepsProgramPromise m form limit cards lines old new answer =
 abbrev pub HeadlineLaw : Type 0
 HeadlineLaw = (own : Option (List (List ℕ))) (before : List Event) (limit : ℕ) (lines : List ScriptLine) (p : Program) (feed : Feed)
     (punched typed : Option (List ℕ)) → Fits p
-    → turns_job own before limit (loaded_by (deck_of p) feed (first_in (set_up_after_load p feed punched typed) lines))
-    ≡ turns_job own before limit (loaded_by (deck_of p) feed (first_in (set_up_at_start p feed punched typed) lines))
+    → let powered = set_up_at_power_on p feed punched typed in
+    turns_job own before limit (loaded_by p feed powered (first_in (set_up_after_load p feed punched typed) lines))
+    ≡ turns_job own before limit (loaded_by p feed powered (first_in (set_up_at_start p feed punched typed) lines))

@@ -1,46 +1,59 @@
 -- What a job does as ONE list, from its first thing to its last: without a fault all of it was done, and after one a first part of it.
-use Rattle.std.specs.Prelude.{ℕ, ◌≡◌, ◌⊎◌, true, false, Bool, List, [], ◌++◌, drop, Option, Some, None, IfSome, option_map, option_and_then, Result, Ok, Err}
+use Rattle.std.specs.Prelude.{ℕ, ◌≡◌, ◌⊎◌, ⊤, true, false, Bool, List, [], ◌++◌, drop, Option, Some, None, IfSome, IsSomeAnd, option_map, option_and_then, Result, Ok, Err}
 use Rattle.outside_io.specs.declared.host.Unit as unit
 use Rattle.outside_io.specs.declared.host.Unit.TheVariants as units
 use Rattle.outside_io.specs.World.{World, Seen, Rose}
 use Rattle.card_code.specs.Entries.{Entry}
 use Rattle.card_unit.specs.declared.hopper.Hopper.{Hopper}
-use Rattle.card_unit.specs.Hopper.{hopper_left, own_cards, IsOneAhead}
+use Rattle.card_unit.specs.Hopper.{hopper_left, own_cards, HasRead}
 use Rattle.typewriter.specs.declared.keyboard.Keyboard.{Keyboard}
-use Rattle.typewriter.specs.Keys.{keys_left, IsInTurn}
+use Rattle.typewriter.specs.Keys.{keys_left}
+use Rattle.typewriter.specs.Keys as typewriter
 use Rattle.cpu_step.specs.State.{State}
 use Rattle.cpu_step.specs.Machine.{is_read}
+use Rattle.cpu_step.specs.declared.console.Console.{Console}
+use Rattle.cpu_step.specs.Console.{console_of}
+use Rattle.sps_listing.specs.Refused.{RefusedText, ShowsRefused}
+use Rattle.sps_listing.specs.declared.refused_statement.RefusedLine.{RefusedLine}
 use Rattle.ibm1620_cli.specs.declared.status.Status.{Status}
+use Rattle.ibm1620_cli.specs.declared.answer.Answer.{Answer}
 use Rattle.ibm1620_cli.specs.declared.status.Status.TheVariants.{Usage, HostFault, OutOfMemory}
 use Rattle.ibm1620_cli.specs.Report.{report_line}
 use Rattle.outside_io.specs.Events.{Event, cards_in, lines_in, text_events, IsFirstPart, DidAll, DidPart}
 use Rattle.ibm1620_cli.specs.Makings.{AreMakings}
+use Rattle.ibm1620_cli.specs.Ways.{Way, StandsOn}
 
--- where a machine ends: its state, the cards that were put into its reader's pile, None where its pile is the lines of Deck, and the cards
--- and the lines that its reader and its keyboard had at power on
+-- where a machine ends: its state, the cards that were put into its reader's pile, None where its pile is the lines of Deck, and, as they were
+-- at power on, the entries of that pile, all cards of its reader and the lines of its keyboard
 pub record Rest : Type 0 where
   pub state : State
   pub own : Option (List (List ℕ))
+  pub pile : List Entry
   pub cards : List Entry
   pub keys : List Entry
 
--- a job: how it ends, all that it does outside, in its order, and where its machine ends, if it has one
+-- a job: how it ends, all that it does outside, in its order, where its machine ends, if it has one, and the way that goes, and the statement
+-- that it refuses a source for, if it does
 pub record Job : Type 0 where
   pub status : Status
   pub events : List Event
   pub rest : Option Rest
+  pub way : Option Way
+  pub refusal : Option RefusedText
 
 -- a line is reported behind some events, and the job ends so, its machine there
-abbrev pub job_leaving : Option Rest → Status → List ℕ → List Event → Job
-job_leaving rest status line before = record {
+abbrev pub job_leaving : Option Rest → Option Way → Status → List ℕ → List Event → Job
+job_leaving rest way status line before = record {
   status = status;
   events = before ++ text_events units.Report line;
   rest = rest;
+  way = way;
+  refusal = None;
 }
 
 -- without a machine
 abbrev pub job_ending : Status → List ℕ → List Event → Job
-job_ending status line before = job_leaving None status line before
+job_ending status line before = job_leaving None None status line before
 
 -- the report line of the status is
 abbrev pub job_with_report : Status → List Event → Job
@@ -64,7 +77,7 @@ pub record Promise : Type 0 where
 
 -- a job behind some events, and its promise behind some bindings
 abbrev pub job_behind : List Event → Job → Job
-job_behind before j = record { status = j.status; events = before ++ j.events; rest = j.rest }
+job_behind before j = record j { events = before ++ j.events }
 
 abbrev pub promise_behind : List Event → Promise → Promise
 promise_behind before c = record {
@@ -83,34 +96,58 @@ abbrev pub is_usage : Status → Bool
 is_usage Usage = true
 is_usage answer = false
 
--- The inputs of a machine, into whose reader's pile these cards were put, have these cards and these lines left, with what a reader and a
--- keyboard hold. A reader holds what is left of the cards that were put into its pile, at most one card, or the text of one line, at its
--- front, and at most 4,096 bytes of Deck and of Data each; a keyboard holds at most 4,096 bytes of Keys. That is the room of `Lines` in
--- card_code. No card was asked for before its turn, but for the look at whether one is left, and no line of Keys.
-pub record HasLeft (own : Option (List (List ℕ))) (cards keys : List Entry) (w : World) : Type 0 where
+-- The inputs of a machine have these cards and these lines left, with what a reader and a keyboard hold. A reader holds what is left of the
+-- cards that were put into its pile, at most one card, or the text of one line, at its front, and at most 4,096 bytes of Deck and of Data
+-- each; a keyboard holds at most 4,096 bytes of Keys. That is the room of `Lines` in card_code. No card was asked for before its turn, but for
+-- the look at whether one is left, and no line of Keys; and what is shown is the console of a state, with what reader and keyboard have read
+-- since power on.
+pub record HasLeft (r : Rest) (cards keys : List Entry) (state : State) (shown : Option Console) (w : World) : Type 0 where
   pub hopper : Hopper
   pub keyboard : Keyboard
-  pub own_is : own_cards hopper ≡ own
+  pub own_is : own_cards hopper ≡ r.own
   pub cards_are : hopper_left hopper w ≡ Some cards
   pub lines_are : keys_left keyboard w ≡ Some keys
-  pub ahead : IsOneAhead hopper w
-  pub turn : IsInTurn keyboard w
+  pub read : HasRead (record { pile = r.pile; all = r.cards }) hopper w
+  pub typed : typewriter.HasRead r.keys keyboard w
+  pub shows : shown ≡ Some (console_of state hopper keyboard)
 
--- what is left of the inputs of a machine that ends so
-abbrev pub LeavesInputs : Rest → World → Type 0
-LeavesInputs r w = HasLeft r.own r.state.hopper r.state.keys w
+-- what is left of the inputs of a machine that ends so, and what its console shows there
+abbrev pub LeavesInputs : Rest → Option Console → World → Type 0
+LeavesInputs r shown w = HasLeft r r.state.hopper r.state.keys r.state shown w
 
--- a job came to its end: this is its status, all of it was done, and its machine, where it has one, leaves its inputs so
-pub record Ends (j : Job) (old new : Seen) (answer : Status) : Type 0 where
-  pub status : answer ≡ j.status
+-- so it is where a job has a machine; and without one no console is shown
+abbrev pub LeavesMachine : Option Rest → Option Console → World → Type 0
+LeavesMachine None shown w = shown ≡ None
+LeavesMachine (Some r) shown w = LeavesInputs r shown w
+
+-- the refused statement of a job is shown, and no other
+abbrev pub ShowsRefusal : Option RefusedText → Option RefusedLine → Type 0
+ShowsRefusal None None = ⊤
+ShowsRefusal None (Some line) = ⊥
+ShowsRefusal (Some r) None = ⊥
+ShowsRefusal (Some r) (Some line) = ShowsRefused r line
+
+-- a job came to its end: this is its status, all of it was done, its machine, where it has one, leaves its inputs so and shows its console, and
+-- the statement is shown that a source was refused for
+pub record Ends (j : Job) (old new : Seen) (answer : Answer) : Type 0 where
+  pub status : answer.status ≡ j.status
   pub did : DidAll j.events old.world new.world
-  pub rest : IfSome j.rest (λ r. LeavesInputs r new.world)
+  pub rest : LeavesMachine j.rest answer.console new.world
+  pub refusal : ShowsRefusal j.refusal answer.refusal
 
 -- an end of the job's own: all of it was done
-pub record OwnEnd (c : Promise) (old new : Seen) (answer : Status) : Type 0 where
-  pub own : is_own answer ≡ true
-  pub usage_is : is_usage answer ≡ c.usage
+pub record OwnEnd (c : Promise) (old new : Seen) (answer : Answer) : Type 0 where
+  pub own : is_own answer.status ≡ true
+  pub usage_is : is_usage answer.status ≡ c.usage
   pub all : IfSome c.job (λ j. Ends j old new answer)
+
+-- the answer of a status alone, with no console and no statement
+abbrev pub answer_of : Status → Answer
+answer_of status = record { status = status; console = None; refusal = None }
+
+-- the answer of a status and of the console that a machine shows
+abbrev pub answer_with : Status → Console → Answer
+answer_with status console = record { status = status; console = Some console; refusal = None }
 
 -- no card and no line is taken
 abbrev pub TakesNone : List Event → Type 0
@@ -120,31 +157,37 @@ TakesNone done = (cards_in done ≡ 0) × (lines_in done ≡ 0)
 abbrev pub Unasked : World → World → Type 0
 Unasked old new = (u : unit.Unit) → is_read u ≡ true → new.asked u ≡ old.asked u
 
--- Cards and lines when a first part of a job was done, behind how their units were asked before. None is in that part, and no unit was asked. Or
--- the job has a machine, and it is as its reader and its keyboard have it: all cards and lines are left but those that this part takes, and
--- none was asked for before its turn.
-pub data AsksForInputs (rest : Option Rest) (done : List Event) (old new : World) : Type 0 where
-  unasked : TakesNone done → Unasked old new → AsksForInputs rest done old new
-  asked : (r : Rest) → rest ≡ Some r → HasLeft r.own (drop (cards_in done) r.cards) (drop (lines_in done) r.keys) new
-      → AsksForInputs rest done old new
+-- a state in which a machine stands when the host fails: on its way, or at its end
+abbrev pub StandsSomewhere : Rest → Option Way → State → Type 0
+StandsSomewhere r way s = IsSomeAnd way (λ on. StandsOn on s) ⊎ (s ≡ r.state)
+
+-- Cards and lines when a first part of a job was done, behind how their units were asked before, and the console. None is in that part, no unit was
+-- asked, and no console is shown. Or the job has a machine, and it is as its reader and its keyboard have it: all cards and lines are left but
+-- those that this part takes, none was asked for before its turn, and the console is that of the place where the machine stands.
+pub data AsksForInputs (rest : Option Rest) (way : Option Way) (done : List Event) (shown : Option Console) (old new : World) : Type 0 where
+  unasked : TakesNone done → Unasked old new → shown ≡ None → AsksForInputs rest way done shown old new
+  asked : (r : Rest) → rest ≡ Some r → (s : State) → StandsSomewhere r way s
+      → HasLeft r (drop (cards_in done) r.cards) (drop (lines_in done) r.keys) s shown new
+      → AsksForInputs rest way done shown old new
 
 -- a first part of a job was done, and nothing else; and the cards and the lines of Keys are those of this very part, so none is asked for
 -- before all that the job does in front of it is done
-pub record StopsAt (j : Job) (old new : World) : Type 0 where
+pub record StopsAt (j : Job) (shown : Option Console) (old new : World) : Type 0 where
   pub did : DidPart j.events old new
-  pub inputs : AsksForInputs j.rest did.done old new
+  pub inputs : AsksForInputs j.rest j.way did.done shown old new
 
--- a host fault: faults rose, and the job stopped within
-pub record FaultEnd (c : Promise) (old new : Seen) (answer : Status) : Type 0 where
-  pub status : answer ≡ HostFault
+-- a host fault: faults rose, and the job stopped within; no statement is shown
+pub record FaultEnd (c : Promise) (old new : Seen) (answer : Answer) : Type 0 where
+  pub status : answer.status ≡ HostFault
+  pub refusal : answer.refusal ≡ None
   pub rose : Rose old.faults new.faults
-  pub part : IfSome c.job (λ j. StopsAt j old.world new.world)
+  pub part : IfSome c.job (λ j. StopsAt j answer.console old.world new.world)
 
 -- plain words, and no memory was found: no more is done than all bindings and a first part of the texts that are made before a machine is
--- powered on; Deck, Data and Keys are not asked
-pub record MemoryEnd (c : Promise) (old new : Seen) (answer : Status) : Type 0 where
+-- powered on; Deck, Data and Keys are not asked; and nothing is shown
+pub record MemoryEnd (c : Promise) (old new : Seen) (answer : Answer) : Type 0 where
   pub words : c.usage ≡ false
-  pub status : answer ≡ OutOfMemory
+  pub plain : answer ≡ answer_of OutOfMemory
   pub done : List Event
   pub did : DidAll (c.made.bindings ++ done) old.world new.world
   pub makings : AreMakings done
@@ -152,7 +195,7 @@ pub record MemoryEnd (c : Promise) (old new : Seen) (answer : Status) : Type 0 w
   pub unasked : Unasked old.world new.world
 
 -- one of the three: so a promise is kept
-abbrev pub KeepsPromise : Promise → Seen → Seen → Status → Type 0
+abbrev pub KeepsPromise : Promise → Seen → Seen → Answer → Type 0
 KeepsPromise c old new answer = OwnEnd c old new answer ⊎ (FaultEnd c old new answer ⊎ MemoryEnd c old new answer)
 
 -- the job by what was read; where that is nothing, the status that says so is reported
@@ -198,11 +241,11 @@ pub record AreTold (t : Texts) (w : World) : Type 0 where
 
 -- A PROMISE IS KEPT that is given by a world: the one that is given by it where it tells some texts of Script, Commands and Source. These are
 -- what the host tells of them, where it does: then it is the promise that is given by the world itself.
-pub record KeepsFrom (promise : World → Promise) (w : World) (old new : Seen) (answer : Status) : Type 0 where
+pub record KeepsFrom (promise : World → Promise) (w : World) (old new : Seen) (answer : Answer) : Type 0 where
   pub texts : Texts
   pub told : AreTold texts w
   pub keeps : KeepsPromise (promise (world_with_texts texts w)) old new answer
 
 -- that is given by the world in which the job begins
-abbrev pub KeepsJob : (World → Promise) → Seen → Seen → Status → Type 0
+abbrev pub KeepsJob : (World → Promise) → Seen → Seen → Answer → Type 0
 KeepsJob promise old new answer = KeepsFrom promise old.world old new answer

@@ -1,11 +1,12 @@
 -- No line of Keys is read before all that a job does in front of it is done: what a host fault says of that.
-use Rattle.std.specs.Prelude.{◌≡◌, ℕ, ◌+◌, ◌<◌, ◌≤◌, false, List, [], ◌∷◌, ◌++◌, length, All, Some}
+use Rattle.std.specs.Prelude.{◌≡◌, ℕ, ◌+◌, ◌<◌, ◌≤◌, false, List, [], ◌∷◌, ◌++◌, length, All, Option, Some}
 use Rattle.outside_io.specs.declared.host.Unit.TheVariants as units
 use Rattle.outside_io.specs.World.{World, Asked}
 use Rattle.outside_io.specs.Lines.{without_return}
 use Rattle.outside_io.specs.Events.{lines_in}
 use Rattle.card_code.specs.Entries.{entries_of_unit}
 use Rattle.card_code.specs.Reader.{has_end}
+use Rattle.cpu_step.specs.declared.console.Console.{Console}
 use Rattle.ibm1620_cli.specs.Promise.{Rest, Job, StopsAt}
 
 -- a line as it is typed: no LF stands in it, it has no CR at its end, and it has 80 bytes at most
@@ -43,5 +44,5 @@ pub record HasReadLine (j : Job) (old new : World) : Type 0 where
 -- Where a job stops so, that line was taken, and all before it: they stand in the part of the job that was done. So all that stands in
 -- front of them in the list of the job was done, as the text that a program types before it reads.
 abbrev pub PromptLaw : Type 0
-PromptLaw = (j : Job) (old new : World) (read : HasReadLine j old new) (stops : StopsAt j old new)
+PromptLaw = (j : Job) (old new : World) (read : HasReadLine j old new) (shown : Option Console) (stops : StopsAt j shown old new)
     → length read.earlier < lines_in stops.did.done

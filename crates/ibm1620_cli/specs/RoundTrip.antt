@@ -30,7 +30,7 @@ use Rattle.disk_loader.specs.Writes.{sectors_after}
 use Rattle.disk_loader.specs.BootstrapDeck.{boot_steps}
 use Rattle.command_line.specs.declared.words.Command.TheVariants.{Load}
 use Rattle.command_line.specs.Words.{Said, plain}
-use Rattle.ibm1620_cli.specs.declared.status.Status.{Status}
+use Rattle.ibm1620_cli.specs.declared.answer.Answer.{Answer}
 use Rattle.ibm1620_cli.specs.declared.status.Status.TheVariants.{OutOfMemory}
 use Rattle.ibm1620_cli.specs.Binding.{all_bound}
 use Rattle.ibm1620_cli.specs.Report.{report_line}
@@ -196,8 +196,8 @@ later_job {w = w} r deck set_up =
     let last = last_place r.limit first in
     let status = status_of (last.steps + r.steps) (ending_of last.state) in
     job_behind (bind_events all_units r.said.names)
-    (job_leaving (Some (record { state = last.state; own = None; cards = cards_before deck r.feed; keys = lines_of_feed r.feed })) status
-    (report_line status) (deck_taken deck ++ run_events r.limit first))
+    (job_leaving (Some (record { state = last.state; own = None; pile = map Text deck; cards = cards_before deck r.feed; keys = lines_of_feed r.feed })) None
+    status (report_line status) (deck_taken deck ++ run_events r.limit first))
 
 -- A sound load of the object deck of a source that breaks no rule: the bytes of Deck are those that are made of the source as its object
 -- deck, in one form or the other, for the core that the words say; and the steps are the deck's.
@@ -210,8 +210,8 @@ pub record SoundRoundTrip (words : List (List ℕ)) (w : World) : Type 0 where
   pub deck_is : (all_bound load.said.names w).left units.Deck ≡ Some (made_of (modules_of load.said.core) form source).object
 
 -- Such a load, in which no call of the host failed and memory was found, does what the program does that is entered.
-abbrev pub RoundTrip : List (List ℕ) → Seen → Seen → Status → Type 0
-RoundTrip words old new answer = (r : SoundRoundTrip words old.world) → (Rose old.faults new.faults → ⊥) → answer ≢ OutOfMemory
+abbrev pub RoundTrip : List (List ℕ) → Seen → Seen → Answer → Type 0
+RoundTrip words old new answer = (r : SoundRoundTrip words old.world) → (Rose old.faults new.faults → ⊥) → answer.status ≢ OutOfMemory
     → let p = program_of (modules_of r.load.said.core) r.form r.source in
     Ends (later_job r.load (deck_of p) (set_up_at_start p r.load.feed)) old new answer
 
@@ -226,7 +226,7 @@ pub record SoundDiskRoundTrip (words : List (List ℕ)) (w : World) : Type 0 whe
   pub sectors : HasSectors (assembled_source (modules_of load.said.core) source).pieces load.feed.sectors
 
 -- Such a load, in which no call of the host failed and memory was found, does what the program does that is entered from disk.
-abbrev pub DiskRoundTrip : List (List ℕ) → Seen → Seen → Status → Type 0
-DiskRoundTrip words old new answer = (r : SoundDiskRoundTrip words old.world) → (Rose old.faults new.faults → ⊥) → answer ≢ OutOfMemory
+abbrev pub DiskRoundTrip : List (List ℕ) → Seen → Seen → Answer → Type 0
+DiskRoundTrip words old new answer = (r : SoundDiskRoundTrip words old.world) → (Rose old.faults new.faults → ⊥) → answer.status ≢ OutOfMemory
     → let m = modules_of r.load.said.core in
     Ends (later_job r.load (boot_cards m r.source) (set_up_from_disk m r.source r.load.feed)) old new answer

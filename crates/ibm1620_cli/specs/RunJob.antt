@@ -7,7 +7,7 @@ use Rattle.operator_script.specs.declared.script.Script.{Script}
 use Rattle.operator_script.specs.declared.script.ScriptLine.{ScriptLine}
 use Rattle.operator_script.specs.Scripts.{lines_left}
 use Rattle.deck_punch.specs.declared.form.DeckForm.{DeckForm}
-use Rattle.ibm1620_cli.specs.declared.status.Status.{Status}
+use Rattle.ibm1620_cli.specs.declared.answer.Answer.{Answer}
 use Rattle.ibm1620_cli.specs.Promise.{Promise, KeepsPromise, KeepsJob, read_promise}
 use Rattle.ibm1620_cli.specs.Program.{program_promise}
 use Rattle.ibm1620_cli.specs.Source.{program_of, made_of, made_events, events_at, source_promise}
@@ -29,13 +29,13 @@ run_promise m form limit =
 
 -- What the functions of this job answer.
 
-abbrev pub TurnedPromise : ℕ → DeckForm → ℕ → Script → List ℕ → Seen → Seen → Status → Type 0
+abbrev pub TurnedPromise : ℕ → DeckForm → ℕ → Script → List ℕ → Seen → Seen → Answer → Type 0
 TurnedPromise m form limit script source old new answer =
     KeepsPromise (turned_promise m form limit (lines_left script) source old.world) old new answer
 
-abbrev pub ScriptPromise : ℕ → DeckForm → ℕ → Script → Seen → Seen → Status → Type 0
+abbrev pub ScriptPromise : ℕ → DeckForm → ℕ → Script → Seen → Seen → Answer → Type 0
 ScriptPromise m form limit script old new answer =
     KeepsJob (script_promise m form limit (lines_left script)) old new answer
 
-abbrev pub RunPromise : ℕ → DeckForm → ℕ → Seen → Seen → Status → Type 0
+abbrev pub RunPromise : ℕ → DeckForm → ℕ → Seen → Seen → Answer → Type 0
 RunPromise m form limit old new answer = KeepsJob (run_promise m form limit) old new answer

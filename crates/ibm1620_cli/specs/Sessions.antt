@@ -5,9 +5,10 @@ use Rattle.operator_script.specs.declared.script.ScriptLine.{ScriptLine}
 use Rattle.operator_script.specs.Turn.{RunPlace}
 use Rattle.sps_pass_two.specs.Assembled.{PlacedText}
 use Rattle.console_debug.specs.declared.commands.DebugCommand.{DebugCommand}
-use Rattle.console_debug.specs.Session.{Course as SessionCourse, Session, session_of, at_first, nth_place, session_events}
+use Rattle.console_debug.specs.Session.{Course as SessionCourse, Session, session_of, at_first, place_of_session, session_events}
 use Rattle.ibm1620_cli.specs.declared.status.Status.TheVariants.{SessionEnded}
 use Rattle.ibm1620_cli.specs.Report.{report_line}
+use Rattle.ibm1620_cli.specs.Ways.{Debugs}
 use Rattle.ibm1620_cli.specs.Promise.{Job, job_leaving, texts_alone, Promise}
 use Rattle.ibm1620_cli.specs.Turns.{LoadedMachine}
 
@@ -26,14 +27,15 @@ course_from g p = record { limit = g.limit; placed = g.placed; first = p }
 abbrev pub session_from : Debugging → RunPlace → Session
 session_from g p = session_of g.commands (course_from g p) at_first
 
--- the job of the session of a machine that was loaded, behind what was done before, with these cards in its reader's pile; outside the
--- machine all is as at the furthest place that it has reached
+-- the job of the session of a machine that was loaded, behind what was done before, with these cards in its reader's pile; it ends where the session
+-- stands, and outside the machine all is as at the furthest place that it has reached
 abbrev pub session_job : Option (List (List ℕ)) → List Event → Debugging → LoadedMachine → Job
 session_job own before g loaded =
     let session = session_from g loaded.first in
-    let furthest = nth_place (course_from g loaded.first) session.furthest in
-    job_leaving (Some (record { state = furthest.state; own = own; cards = loaded.cards; keys = loaded.keys })) SessionEnded
-    (report_line SessionEnded) (before ++ (loaded.taken ++ session_events (course_from g loaded.first) session.acts))
+    let place = place_of_session (course_from g loaded.first) session in
+    job_leaving (Some (record { state = place.state; own = own; pile = loaded.pile; cards = loaded.cards; keys = loaded.keys }))
+    (Some (Debugs loaded.powered (course_from g loaded.first) session.acts)) SessionEnded (report_line SessionEnded)
+    (before ++ (loaded.taken ++ session_events (course_from g loaded.first) session.acts))
 
 -- THE PROMISE OF A SESSION over a machine that is loaded by what the host tells, behind what was done before; no more than that is done
 -- where no memory was found

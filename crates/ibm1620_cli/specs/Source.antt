@@ -8,6 +8,7 @@ use Rattle.sps_pass_one.specs.Layout.{Refusal}
 use Rattle.sps_pass_two.specs.{refusal_of, AssembledText, assembled_text}
 use Rattle.report_lines.specs.Numbers.{with_line_feed}
 use Rattle.sps_listing.specs.Texts.{image_text, refusal_line}
+use Rattle.sps_listing.specs.Refused.{refused_text}
 use Rattle.sps_listing.specs.Listing.{listing_text}
 use Rattle.deck_punch.specs.declared.form.DeckForm.{DeckForm}
 use Rattle.ibm1620_cli.specs.declared.status.Status.{Status}
@@ -80,7 +81,9 @@ events_at m form w = option_map (events_of_source m form) (w.left units.Source)
 -- a source is refused: its first broken statement is reported, and what the refusal shows of it
 abbrev pub refused_job : List ℕ → Refusal → Job
 refused_job source r =
-    job_ending (Refused r.statement r.fault.rule) (refusal_line source r.statement r.fault.rule r.fault.part) []
+    record (job_ending (Refused r.statement r.fault.rule) (refusal_line source r.statement r.fault.rule r.fault.part) []) {
+      refusal = Some (refused_text source r.statement r.fault.rule r.fault.part);
+    }
 
 -- by the first broken statement of a source: it's refused, or what follows is done
 abbrev pub promise_by : (List ℕ → World → Promise) → List ℕ → Option Refusal → World → Promise

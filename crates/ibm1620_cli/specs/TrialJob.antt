@@ -7,6 +7,7 @@ use Rattle.sps_generator.specs.Generated.{source_deck}
 use Rattle.report_lines.specs.Numbers.{at_count}
 use Rattle.deck_punch.specs.declared.form.DeckForm.TheVariants.{SelfLoading}
 use Rattle.ibm1620_cli.specs.declared.status.Status.{Status}
+use Rattle.ibm1620_cli.specs.declared.answer.Answer.{Answer}
 use Rattle.ibm1620_cli.specs.declared.status.Status.TheVariants.{Halted, CheckStop, Limit, NeedCards, NeedKeys}
 use Rattle.ibm1620_cli.specs.Promise.{Job, Promise, KeepsPromise}
 use Rattle.ibm1620_cli.specs.Source.{card_count, assembly_promise}
@@ -44,10 +45,8 @@ line_behind statements number cards (Some steps) = trial_line statements number 
 
 -- the same job, and behind all else that it does the line of a trial
 abbrev pub job_of_trial : ℕ → ℕ → ℕ → Job → Job
-job_of_trial statements number cards j = record {
-  status = j.status;
+job_of_trial statements number cards j = record j {
   events = j.events ++ text_events units.Report (line_behind statements number cards (steps_of j.status));
-  rest = j.rest;
 }
 
 -- the same promise, with the line of a trial
@@ -71,9 +70,9 @@ trial_promise statements number w =
 
 -- What the functions of this job answer.
 
-abbrev pub TriesAssembled : ℕ → ℕ → List ℕ → Seen → Seen → Status → Type 0
+abbrev pub TriesAssembled : ℕ → ℕ → List ℕ → Seen → Seen → Answer → Type 0
 TriesAssembled statements number source old new answer =
     KeepsPromise (tried_promise statements number source old.world) old new answer
 
-abbrev pub TriesSource : ℕ → ℕ → Seen → Seen → Status → Type 0
+abbrev pub TriesSource : ℕ → ℕ → Seen → Seen → Answer → Type 0
 TriesSource statements number old new answer = KeepsPromise (trial_promise statements number old.world) old new answer

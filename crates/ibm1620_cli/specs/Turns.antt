@@ -14,6 +14,7 @@ use Rattle.operator_script.specs.TurnEvents.{run_events}
 use Rattle.ibm1620_cli.specs.declared.status.Status.{Status}
 use Rattle.ibm1620_cli.specs.declared.status.Status.TheVariants.{Halted, CheckStop, Limit, NeedCards, NeedKeys, HostFault, Jam}
 use Rattle.ibm1620_cli.specs.Report.{report_line}
+use Rattle.ibm1620_cli.specs.Ways.{Runs}
 use Rattle.ibm1620_cli.specs.Promise.{Job, job_leaving, texts_alone, Promise}
 
 -- what the machine is fed with besides the cards of a deck: the data cards, the keyboard, and the sectors of the pack
@@ -77,9 +78,12 @@ state_over w s = s (w.written units.Punched) (w.written units.Typed)
 abbrev pub first_over : World → SetUp → List ScriptLine → RunPlace
 first_over w s lines = first_in (state_over w s) lines
 
--- a machine that was loaded: the cards and the lines that its reader and its keyboard had at power on, what loading did outside, which takes
--- cards alone, and where its turns begin
+-- a machine that was loaded: its state at power on, the entries of its reader's pile, all cards and the lines that its reader and its keyboard had
+-- there, the steps that its deck makes before its turns begin, what loading did outside, which takes cards alone, and where its turns begin
 pub record LoadedMachine : Type 0 where
+  pub powered : State
+  pub steps : ℕ
+  pub pile : List Entry
   pub cards : List Entry
   pub keys : List Entry
   pub taken : List Event
@@ -91,7 +95,8 @@ abbrev pub turns_job : Option (List (List ℕ)) → List Event → ℕ → Loade
 turns_job own before limit loaded =
     let last = last_place limit loaded.first in
     let status = status_of last.steps (ending_of last.state) in
-    job_leaving (Some (record { state = last.state; own = own; cards = loaded.cards; keys = loaded.keys })) status (report_line status)
+    job_leaving (Some (record { state = last.state; own = own; pile = loaded.pile; cards = loaded.cards; keys = loaded.keys }))
+    (Some (Runs loaded.powered loaded.steps limit loaded.first)) status (report_line status)
     (before ++ (loaded.taken ++ run_events limit loaded.first))
 
 -- THE PROMISE OF THE TURNS of a machine that is loaded by what the host tells, behind what was done before; no more than that is done where

@@ -5,6 +5,7 @@ ghost use Rattle.ibm1620_cli.specs.AssembleJob.{AssemblyPromise, WrittenPromise,
 ghost use Rattle.ibm1620_cli.specs.Inputs.{reads_nothing, reads_source};
 ghost use Rattle.ibm1620_cli.specs.Parts.{IsSound, Stays};
 
+use crate::answer::Answer;
 use crate::report::report;
 use crate::source::{SoundSource, read_source, write_source};
 use crate::status::Status;
@@ -18,14 +19,14 @@ pub(crate) fn assemble_source<const M: u32, H: Host>(
     alloc: Global,
     host: &mut H,
     form: DeckForm,
-) -> Status
+) -> Answer
     requires size { IsSize M }
     ensures promise { AssemblyPromise M form (H.seen host.old) (H.seen host.new) result }
     ensures stays { Stays reads_source (H.seen host.old).world (H.seen host.new).world }
 {
     match read_source::<M, H>(alloc, host) {
         Ok(sound) => write_assembled::<M, H>(alloc, host, &sound, form),
-        Err(status) => status,
+        Err(answer) => answer,
     }
 }
 
@@ -35,15 +36,18 @@ fn write_assembled<const M: u32, H: Host>(
     host: &mut H,
     sound: &SoundSource,
     form: DeckForm,
-) -> Status
+) -> Answer
     requires size { IsSize M }
     requires is { IsSound M sound.now }
     ensures promise { WrittenPromise M form sound.now.source.items (H.seen host.old) (H.seen host.new) result }
     ensures stays { Stays reads_nothing (H.seen host.old).world (H.seen host.new).world }
 {
     match write_source::<M, H>(alloc, host, sound, form) {
-        Ok(cards) => report(host, status_of(&sound.assembled, cards.len() as u32)),
-        Err(status) => status,
+        Ok(cards) => {
+            let status = status_of(&sound.assembled, cards.len() as u32);
+            Answer::of(report(host, status))
+        }
+        Err(status) => Answer::of(status),
     }
 }
 

@@ -8,6 +8,7 @@ ghost use Rattle.ibm1620_cli.specs.DebugJob.{DebugsSource, DebugsUnder, DebugsBy
 ghost use Rattle.ibm1620_cli.specs.Inputs.{debug_reads, reads_feed, reads_program, reads_session};
 ghost use Rattle.ibm1620_cli.specs.Parts.{IsSound, ReadsCommands, AreReady, HoldsSession, Stays};
 
+use crate::answer::Answer;
 use crate::load::read_script;
 use crate::reading::read_text;
 use crate::report::report;
@@ -39,14 +40,14 @@ pub(crate) fn debug_source<const M: u32, H: Host>(
     alloc: Global,
     host: &mut H,
     settings: Settings,
-) -> Status
+) -> Answer
     requires size { IsSize M }
     ensures promise { DebugsSource M settings.form settings.limit (H.seen host.old) (H.seen host.new) result }
     ensures stays { Stays debug_reads (H.seen host.old).world (H.seen host.new).world }
 {
     match read_script::<M, H>(alloc, host) {
         Ok(script) => debug_under::<M, H>(alloc, host, script, settings),
-        Err(status) => report(host, status),
+        Err(status) => Answer::of(report(host, status)),
     }
 }
 
@@ -56,7 +57,7 @@ fn debug_under<const M: u32, H: Host>(
     host: &mut H,
     script: Script,
     settings: Settings,
-) -> Status
+) -> Answer
     requires size { IsSize M }
     requires lines { All (IsLine (size M)) (lines_left script) }
     ensures promise { DebugsUnder M settings.form settings.limit script
@@ -65,7 +66,7 @@ fn debug_under<const M: u32, H: Host>(
 {
     match read_commands::<M, H>(alloc, host) {
         Ok(commands) => debug_by::<M, H>(alloc, host, script, commands, settings),
-        Err(status) => report(host, status),
+        Err(status) => Answer::of(report(host, status)),
     }
 }
 
@@ -92,7 +93,7 @@ fn debug_by<const M: u32, H: Host>(
     script: Script,
     commands: Commands,
     settings: Settings,
-) -> Status
+) -> Answer
     requires size { IsSize M }
     requires lines { All (IsLine (size M)) (lines_left script) }
     requires ready { AreReady M commands }
@@ -102,7 +103,7 @@ fn debug_by<const M: u32, H: Host>(
 {
     match read_source::<M, H>(alloc, host) {
         Ok(sound) => debug_assembled::<M, H>(alloc, host, &sound, script, commands, settings),
-        Err(status) => status,
+        Err(answer) => answer,
     }
 }
 
@@ -115,7 +116,7 @@ fn debug_assembled<const M: u32, H: Host>(
     script: Script,
     commands: Commands,
     settings: Settings,
-) -> Status
+) -> Answer
     requires size { IsSize M }
     requires is { IsSound M sound.now }
     requires lines { All (IsLine (size M)) (lines_left script) }
@@ -139,7 +140,7 @@ fn debug_assembled<const M: u32, H: Host>(
                 given,
             )
         }
-        Err(status) => status,
+        Err(status) => Answer::of(status),
     }
 }
 
@@ -151,7 +152,7 @@ fn hold_session<const M: u32, H: Host>(
     hopper: Hopper,
     assembled: &Assembled,
     given: Given,
-) -> Status
+) -> Answer
     requires size { IsSize M }
     requires lines { All (IsLine (size M)) (lines_left given.script) }
     requires ready { AreReady M given.commands }
@@ -165,14 +166,14 @@ fn hold_session<const M: u32, H: Host>(
     } = given;
     let mut rewind = match Rewind::<M>::new(alloc) {
         Ok(rewind) => rewind,
-        Err(_) => return Status::OutOfMemory,
+        Err(_) => return Answer::of(Status::OutOfMemory),
     };
     let mut machine = match Machine::<M>::power_on(alloc, hopper) {
         Ok(machine) => machine,
-        Err(_) => return Status::OutOfMemory,
+        Err(_) => return Answer::of(Status::OutOfMemory),
     };
     match machine.load_key(host) {
-        Turned::Failed => return Status::HostFault,
+        Turned::Failed => return Answer::with_console(Status::HostFault, machine.shown()),
         _ => {}
     }
     match session(
@@ -184,7 +185,10 @@ fn hold_session<const M: u32, H: Host>(
         &mut rewind,
         host,
     ) {
-        SessionEnd::Ended => report(host, Status::SessionEnded),
-        SessionEnd::Failed => Status::HostFault,
+        SessionEnd::Ended => {
+            let status = report(host, Status::SessionEnded);
+            Answer::with_console(status, machine.shown())
+        }
+        SessionEnd::Failed => Answer::with_console(Status::HostFault, machine.shown()),
     }
 }

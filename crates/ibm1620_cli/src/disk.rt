@@ -6,6 +6,7 @@ ghost use Rattle.ibm1620_cli.specs.Parts.{IsSound, EventsOccur, Stays};
 ghost use Rattle.ibm1620_cli.specs.RoundTrip.{DiskRoundTripLaw};
 ghost use Rattle.ibm1620_cli.specs.Inputs.{placing_reads, reads_pack};
 
+use crate::answer::Answer;
 use crate::report::report;
 use crate::source::{SoundSource, deck_bytes, read_source};
 use crate::status::Status;
@@ -16,14 +17,14 @@ use sps_pass_two::Assembled;
 use std::alloc::Global;
 
 // Reads the source, assembles it, and writes it to the disk pack.
-pub(crate) fn place_source<const M: u32, H: Host>(alloc: Global, host: &mut H) -> Status
+pub(crate) fn place_source<const M: u32, H: Host>(alloc: Global, host: &mut H) -> Answer
     requires size { IsSize M }
     ensures promise { DiskPromise M (H.seen host.old) (H.seen host.new) result }
     ensures stays { Stays placing_reads (H.seen host.old).world (H.seen host.new).world }
 {
     match read_source::<M, H>(alloc, host) {
         Ok(sound) => place_assembled::<M, H>(alloc, host, &sound),
-        Err(status) => status,
+        Err(answer) => answer,
     }
 }
 
@@ -33,7 +34,7 @@ fn place_assembled<const M: u32, H: Host>(
     alloc: Global,
     host: &mut H,
     sound: &SoundSource,
-) -> Status
+) -> Answer
     requires size { IsSize M }
     requires is { IsSound M sound.now }
     ensures promise { PlacingPromise M sound.now.source.items (H.seen host.old) (H.seen host.new) result }
@@ -42,21 +43,21 @@ fn place_assembled<const M: u32, H: Host>(
     let assembled = &sound.assembled;
     let cards = match bootstrap(alloc, assembled) {
         Ok(cards) => cards,
-        Err(_) => return Status::OutOfMemory,
+        Err(_) => return Answer::of(Status::OutOfMemory),
     };
     let object = match deck_bytes(alloc, &cards) {
         Ok(object) => object,
-        Err(_) => return Status::OutOfMemory,
+        Err(_) => return Answer::of(Status::OutOfMemory),
     };
     match write_placed(host, &object, assembled) {
-        Sent::Done => report(
-            host,
-            Status::Placed {
+        Sent::Done => {
+            let placed = Status::Placed {
                 sectors: sector_count(assembled),
                 cards: cards.len() as u32,
-            },
-        ),
-        Sent::Failed => Status::HostFault,
+            };
+            Answer::of(report(host, placed))
+        }
+        Sent::Failed => Answer::of(Status::HostFault),
     }
 }
 

@@ -6,6 +6,7 @@ ghost use Rattle.operator_script.specs.Scripts.{IsLine, lines_left};
 ghost use Rattle.ibm1620_cli.specs.Turns.{status_of};
 ghost use Rattle.ibm1620_cli.specs.Parts.{Executes, TakesTurns};
 
+use crate::answer::Answer;
 use crate::report::report;
 use crate::status::Status;
 use card_unit::Hopper;
@@ -24,26 +25,26 @@ pub(crate) fn execute<const M: u32, H: Host>(
     steps: u64,
     script: Script,
     limit: u64,
-) -> Status
+) -> Answer
     requires size { IsSize M }
     requires lines { All (IsLine (size M)) (lines_left script) }
     ensures { Executes M steps limit hopper script (H.seen host.old) (H.seen host.new) result }
 {
     let mut none = match no_script(alloc) {
         Ok(none) => none,
-        Err(_) => return Status::OutOfMemory,
+        Err(_) => return Answer::of(Status::OutOfMemory),
     };
     let mut machine = match Machine::<M>::power_on(alloc, hopper) {
         Ok(machine) => machine,
-        Err(_) => return Status::OutOfMemory,
+        Err(_) => return Answer::of(Status::OutOfMemory),
     };
     match machine.load_key(host) {
-        Turned::Failed => return Status::HostFault,
+        Turned::Failed => return Answer::with_console(Status::HostFault, machine.shown()),
         _ => {}
     }
     let loaded = run(&mut machine, &mut none, steps, host);
     match loaded.how {
-        Ending::Failed => return Status::HostFault,
+        Ending::Failed => return Answer::with_console(Status::HostFault, machine.shown()),
         _ => {}
     }
     take_turns(host, &mut machine, script, limit)
@@ -66,7 +67,7 @@ fn take_turns<const M: u32, H: Host>(
     machine: &mut Machine<M>,
     script: Script,
     limit: u64,
-) -> Status
+) -> Answer
     requires size { IsSize M }
     requires mode { is_faulted machine.old.mode ≡ false }
     requires lines { All (IsLine (size M)) (lines_left script) }
@@ -74,7 +75,8 @@ fn take_turns<const M: u32, H: Host>(
 {
     let mut script = script;
     let ended = run(machine, &mut script, limit, host);
-    report(host, status_of(ended))
+    let status = report(host, status_of(ended));
+    Answer::with_console(status, machine.shown())
 }
 
 // The status of a run that ended so.

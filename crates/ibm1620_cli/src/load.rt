@@ -6,6 +6,7 @@ ghost use Rattle.ibm1620_cli.specs.LoadJob.{LoadPromise, LoadedPromise};
 ghost use Rattle.ibm1620_cli.specs.Inputs.{load_reads, reads_feed};
 ghost use Rattle.ibm1620_cli.specs.Parts.{ReadsScript, Stays};
 
+use crate::answer::Answer;
 use crate::execute::execute;
 use crate::reading::read_text;
 use crate::report::report;
@@ -20,14 +21,14 @@ use std::alloc::Global;
 const LONGEST_SCRIPT: usize = 1_000_000;
 
 // Reads the script, loads the deck and runs the machine.
-pub(crate) fn load<const M: u32, H: Host>(alloc: Global, host: &mut H, limit: u64) -> Status
+pub(crate) fn load<const M: u32, H: Host>(alloc: Global, host: &mut H, limit: u64) -> Answer
     requires size { IsSize M }
     ensures promise { LoadPromise M limit (H.seen host.old) (H.seen host.new) result }
     ensures stays { Stays load_reads (H.seen host.old).world (H.seen host.new).world }
 {
     match read_script::<M, H>(alloc, host) {
         Ok(script) => load_deck::<M, H>(alloc, host, script, limit),
-        Err(status) => report(host, status),
+        Err(status) => Answer::of(report(host, status)),
     }
 }
 
@@ -56,7 +57,7 @@ fn load_deck<const M: u32, H: Host>(
     host: &mut H,
     script: Script,
     limit: u64,
-) -> Status
+) -> Answer
     requires size { IsSize M }
     requires lines { All (IsLine (size M)) (lines_left script) }
     ensures promise { LoadedPromise M limit script (H.seen host.old) (H.seen host.new) result }

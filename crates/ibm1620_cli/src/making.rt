@@ -5,6 +5,7 @@ ghost use Rattle.command_line.specs.Numbers.{AreNumbers};
 ghost use Rattle.ibm1620_cli.specs.Inputs.{reads_nothing};
 ghost use Rattle.ibm1620_cli.specs.Parts.{Stays};
 
+use crate::answer::Answer;
 use crate::report::report;
 use crate::status::Status;
 use outside_io::{Host, Sent, Unit, write_all};
@@ -17,17 +18,17 @@ pub(crate) fn make_source<H: Host>(
     host: &mut H,
     statements: u32,
     number: u32,
-) -> Status
+) -> Answer
     requires fits { AreNumbers statements number }
     ensures promise { MakesSource statements number (H.seen host.old) (H.seen host.new) result }
     ensures stays { Stays reads_nothing (H.seen host.old).world (H.seen host.new).world }
 {
     let source = match generate(alloc, statements, number) {
         Ok(source) => source,
-        Err(_) => return Status::OutOfMemory,
+        Err(_) => return Answer::of(Status::OutOfMemory),
     };
     match write_all(host, Unit::Made, &source) {
-        Sent::Done => report(host, Status::Generated { statements }),
-        Sent::Failed => Status::HostFault,
+        Sent::Done => Answer::of(report(host, Status::Generated { statements })),
+        Sent::Failed => Answer::of(Status::HostFault),
     }
 }

@@ -1,5 +1,5 @@
 // A program's deck is loaded, and the turns begin at its first instruction.
-ghost use Rattle.std.specs.Prelude.{◌≤◌, length, All};
+ghost use Rattle.std.specs.Prelude.{◌≡◌, ◌≤◌, length, All};
 ghost use Rattle.digit_core.specs.Size.{IsSize, size};
 ghost use Rattle.operator_script.specs.Scripts.{IsLine, lines_left};
 ghost use Rattle.loader_cards.specs.ObjectDeck.{fewest_in};
@@ -9,9 +9,9 @@ ghost use Rattle.ibm1620_cli.specs.RoundTrip.{RoundTripLaw};
 ghost use Rattle.ibm1620_cli.specs.Parts.{ProgramPromise, Stays};
 ghost use Rattle.ibm1620_cli.specs.Inputs.{reads_feed};
 
+use crate::answer::Answer;
 use crate::execute::execute;
 use crate::settings::Settings;
-use crate::status::Status;
 use card_code::Card;
 use card_unit::Hopper;
 use loader_cards::deck_steps;
@@ -27,7 +27,7 @@ pub(crate) fn run_program<const M: u32, H: Host>(
     cards: Vec<Card>,
     script: Script,
     settings: Settings,
-) -> Status
+) -> Answer
     requires size { IsSize M }
     requires some { fewest_in settings.form ≤ length cards.items }
     requires most { length cards.items ≤ 100000 }
@@ -36,6 +36,7 @@ pub(crate) fn run_program<const M: u32, H: Host>(
         (H.seen host.old) (H.seen host.new) result }
     ensures stays { Stays reads_feed (H.seen host.old).world (H.seen host.new).world }
     ensures later { (H.seen host.old).faults ≤ (H.seen host.new).faults }
+    ensures unrefused { result.refusal ≡ None }
 {
     let steps = deck_steps(cards.len() as u64, settings.form);
     execute::<M, H>(

@@ -6,12 +6,12 @@ ghost use Rattle.ibm1620_cli.specs.RunJob.{RunPromise, ScriptPromise, TurnedProm
 ghost use Rattle.ibm1620_cli.specs.Inputs.{reads_feed, reads_program, run_reads};
 ghost use Rattle.ibm1620_cli.specs.Parts.{IsSound, Stays};
 
+use crate::answer::Answer;
 use crate::load::read_script;
 use crate::program::run_program;
 use crate::report::report;
 use crate::settings::Settings;
 use crate::source::{SoundSource, read_source, write_source};
-use crate::status::Status;
 use operator_script::Script;
 use outside_io::Host;
 use std::alloc::Global;
@@ -21,14 +21,14 @@ pub(crate) fn run_source<const M: u32, H: Host>(
     alloc: Global,
     host: &mut H,
     settings: Settings,
-) -> Status
+) -> Answer
     requires size { IsSize M }
     ensures promise { RunPromise M settings.form settings.limit (H.seen host.old) (H.seen host.new) result }
     ensures stays { Stays run_reads (H.seen host.old).world (H.seen host.new).world }
 {
     match read_script::<M, H>(alloc, host) {
         Ok(script) => run_under::<M, H>(alloc, host, script, settings),
-        Err(status) => report(host, status),
+        Err(status) => Answer::of(report(host, status)),
     }
 }
 
@@ -38,7 +38,7 @@ fn run_under<const M: u32, H: Host>(
     host: &mut H,
     script: Script,
     settings: Settings,
-) -> Status
+) -> Answer
     requires size { IsSize M }
     requires lines { All (IsLine (size M)) (lines_left script) }
     ensures promise { ScriptPromise M settings.form settings.limit script
@@ -47,7 +47,7 @@ fn run_under<const M: u32, H: Host>(
 {
     match read_source::<M, H>(alloc, host) {
         Ok(sound) => run_assembled::<M, H>(alloc, host, &sound, script, settings),
-        Err(status) => status,
+        Err(answer) => answer,
     }
 }
 
@@ -58,7 +58,7 @@ fn run_assembled<const M: u32, H: Host>(
     sound: &SoundSource,
     script: Script,
     settings: Settings,
-) -> Status
+) -> Answer
     requires size { IsSize M }
     requires is { IsSound M sound.now }
     requires lines { All (IsLine (size M)) (lines_left script) }
@@ -68,6 +68,6 @@ fn run_assembled<const M: u32, H: Host>(
 {
     match write_source::<M, H>(alloc, host, sound, settings.form) {
         Ok(cards) => run_program::<M, H>(alloc, host, cards, script, settings),
-        Err(status) => status,
+        Err(status) => Answer::of(status),
     }
 }

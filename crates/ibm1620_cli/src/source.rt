@@ -6,6 +6,7 @@ ghost use Rattle.ibm1620_cli.specs.Source.{deck_text, made_events};
 ghost use Rattle.ibm1620_cli.specs.Inputs.{reads_nothing};
 ghost use Rattle.ibm1620_cli.specs.Parts.{IsSound, ReadsSource, AssemblesOrRefuses, Refuses, made_with, EventsOccur, WritesSource, Stays};
 
+use crate::answer::Answer;
 use crate::reading::read_text;
 use crate::report::report;
 use crate::status::Status;
@@ -14,7 +15,7 @@ use deck_punch::DeckForm;
 use digit_core::MODULE;
 use loader_cards::object_deck;
 use outside_io::{Host, Sent, Unit, write_all};
-use sps_listing::{image_text, listing, refusal};
+use sps_listing::{image_text, listing, refusal, refused_line};
 use sps_ops::Rule;
 use sps_pass_two::{AsmFault, Assembled, assemble};
 use std::alloc::{AllocError, Global};
@@ -33,13 +34,13 @@ pub(crate) struct SoundSource {
 pub(crate) fn read_source<const M: u32, H: Host>(
     alloc: Global,
     host: &mut H,
-) -> Result<SoundSource, Status>
+) -> Result<SoundSource, Answer>
     requires { IsSize M }
     ensures { ReadsSource M (H.seen host.old) (H.seen host.new) result }
 {
     match read_text(alloc, host, Unit::Source, LONGEST_SOURCE) {
         Ok(source) => assemble_or_refuse::<M, H>(alloc, host, source),
-        Err(status) => Err(report(host, status)),
+        Err(status) => Err(Answer::of(report(host, status))),
     }
 }
 
@@ -48,7 +49,7 @@ pub(crate) fn assemble_or_refuse<const M: u32, H: Host>(
     alloc: Global,
     host: &mut H,
     source: Vec<u8>,
-) -> Result<SoundSource, Status>
+) -> Result<SoundSource, Answer>
     requires { IsSize M }
     ensures { AssemblesOrRefuses M source.items (H.seen host.old) (H.seen host.new) result }
 {
@@ -61,23 +62,27 @@ pub(crate) fn assemble_or_refuse<const M: u32, H: Host>(
                 part,
             },
         ) => Err(refuse(host, &source, statement, rule, part)),
-        Err(AsmFault::Memory) => Err(Status::OutOfMemory),
+        Err(AsmFault::Memory) => Err(Answer::of(Status::OutOfMemory)),
     }
 }
 
-// Reports the first broken statement, and what the refusal shows of it.
+// Reports the first broken statement, and what the refusal shows of it, and answers it.
 fn refuse<H: Host>(
     host: &mut H,
     source: &[u8],
     statement: u32,
     rule: Rule,
     part: Option<u8>,
-) -> Status
+) -> Answer
     ensures { Refuses source.now statement rule part (H.seen host.old) (H.seen host.new) result }
 {
     match refusal(source, statement, rule, part, host) {
-        Sent::Done => Status::Refused { statement, rule },
-        Sent::Failed => Status::HostFault,
+        Sent::Done => Answer {
+            status: Status::Refused { statement, rule },
+            console: None,
+            refusal: Some(refused_line(source, statement, rule, part)),
+        },
+        Sent::Failed => Answer::of(Status::HostFault),
     }
 }
 

@@ -4,11 +4,12 @@ ghost use Rattle.digit_core.specs.Size.{IsSize};
 ghost use Rattle.outside_io.specs.World.{IsFresh, IsFree};
 ghost use Rattle.command_line.specs.Given.{meaning_of};
 ghost use Rattle.ibm1620_cli.specs.Parts.{Stays};
-ghost use Rattle.ibm1620_cli.specs.Job.{word_bytes, reads, Tells, BindsSaid, KeepsUnread, DoesSaid, BindsFiles, KeepsFiles, DoesJob, DoesJobIn};
+ghost use Rattle.ibm1620_cli.specs.Job.{word_bytes, reads, Tells, BindsSaid, KeepsUnread, DoesSaid, BindsFiles, KeepsFiles, DoesJob, DoesJobIn, IsStatusOf};
 ghost use Rattle.ibm1620_cli.specs.Headline.{Headline};
 ghost use Rattle.ibm1620_cli.specs.RoundTrip.{DiskRoundTrip, RoundTrip};
 ghost use Rattle.ibm1620_cli.specs.Endings.{TrialEnds, SessionEnds};
 
+use crate::answer::Answer;
 use crate::assembly::assemble_source;
 use crate::binding::bind_all;
 use crate::debug::debug_source;
@@ -24,7 +25,7 @@ use command_line::{Command, CoreSize, Plain, plain_words};
 use outside_io::{Bound, Host};
 use std::alloc::{AllocError, Global};
 
-/// Does what the words say, over any host, and answers how that ended.
+/// Does what the words say, over any host, and answers how that ended, with the console of the machine and the statement of a refused source.
 ///
 /// The words are those behind the program's name. `assemble` makes an object deck of a source; `load` runs a deck by the Load key, `run` a
 /// source, `debug` a source under the debugger's commands; `generate` makes a source by two numbers, `trial` runs such a one, and `disk`
@@ -107,45 +108,70 @@ use std::alloc::{AllocError, Global};
 /// reader holds what is left of the cards that were put into it, and at most 4,096 bytes of Deck and of Data each, the keyboard as many of
 /// Keys; and no line, and no card but for that one look, was asked for before its turn.
 ///
+/// The console is that of the machine where its last turn leaves it, of a session where it stands, or, after a fault, that of the place on its
+/// way where the machine stands: within the Load key, a step of its deck, a turn or a line of the session, or at its end. The counts of cards and
+/// lines and the bad characters are those of the cards and the lines that were taken. There is none where no machine was powered on. The
+/// statement is the one that the source is refused for.
+///
 /// Or the answer is `OutOfMemory`, for plain words alone: then no more was done than all bindings and a first part of the texts that are
 /// made of a source, with nothing punched, typed or reported, and no sector written; and Deck, Data and Keys were not asked. For plain words
 /// memory may lack before any file is bound, and then nothing at all was done. The units in use are those up to one in the order of units
 /// that the words name a file for, each bound to that very name: all of them, where the answer is no `HostFault`; none, where memory was
 /// lacking for the words.
 /// Source: this project's own.
-pub fn ibm1620<H: Host>(alloc: Global, words: &[String], host: &mut H) -> Status
+pub fn ibm1620_answer<H: Host>(alloc: Global, words: &[String], host: &mut H) -> Answer
     requires { IsFresh (H.seen host.old).world }
     ensures told { Tells (word_bytes words.now) (H.seen host.old) (H.seen host.new) result }
-    ensures bound { BindsSaid (word_bytes words.now) (H.seen host.old) (H.seen host.new) result }
+    ensures bound { BindsSaid (word_bytes words.now) (H.seen host.old) (H.seen host.new) result.status }
     ensures unread { KeepsUnread (word_bytes words.now) (H.seen host.old) (H.seen host.new) }
     ensures headline { Headline (word_bytes words.now) (H.seen host.old) (H.seen host.new) result }
-    ensures trial { TrialEnds (word_bytes words.now) (H.seen host.old) (H.seen host.new) result }
-    ensures session { SessionEnds (word_bytes words.now) (H.seen host.old) (H.seen host.new) result }
+    ensures trial { TrialEnds (word_bytes words.now) (H.seen host.old) (H.seen host.new) result.status }
+    ensures session { SessionEnds (word_bytes words.now) (H.seen host.old) (H.seen host.new) result.status }
     ensures trip { RoundTrip (word_bytes words.now) (H.seen host.old) (H.seen host.new) result }
     ensures disk_trip { DiskRoundTrip (word_bytes words.now) (H.seen host.old) (H.seen host.new) result }
 {
     match plain_words(alloc, words) {
-        Ok(None) => report(host, Status::Usage),
+        Ok(None) => Answer::of(report(host, Status::Usage)),
         Ok(Some(plain)) => bind_and_do(alloc, host, plain),
-        Err(AllocError) => Status::OutOfMemory,
+        Err(AllocError) => Answer::of(Status::OutOfMemory),
     }
 }
 
+/// Does what the words say, over any host, and answers how that ended: the status of what [`ibm1620_answer`] answers, which says all of what
+/// is done.
+///
+/// No unit of the host is in use, and no output has been given a byte.
+/// Source: this project's own.
+pub fn ibm1620<H: Host>(alloc: Global, words: &[String], host: &mut H) -> Status
+    requires { IsFresh (H.seen host.old).world }
+    ensures told { IsStatusOf result (Tells (word_bytes words.now) (H.seen host.old) (H.seen host.new)) }
+    ensures bound { BindsSaid (word_bytes words.now) (H.seen host.old) (H.seen host.new) result }
+    ensures unread { KeepsUnread (word_bytes words.now) (H.seen host.old) (H.seen host.new) }
+    ensures headline { IsStatusOf result (Headline (word_bytes words.now) (H.seen host.old) (H.seen host.new)) }
+    ensures trial { TrialEnds (word_bytes words.now) (H.seen host.old) (H.seen host.new) result }
+    ensures session { SessionEnds (word_bytes words.now) (H.seen host.old) (H.seen host.new) result }
+    ensures trip { IsStatusOf result (RoundTrip (word_bytes words.now) (H.seen host.old) (H.seen host.new)) }
+    ensures disk_trip { IsStatusOf result (DiskRoundTrip (word_bytes words.now) (H.seen host.old) (H.seen host.new)) }
+{
+    let answer = ibm1620_answer(alloc, words, host);
+    answer.status
+}
+
 // Binds the files, and does the job of the command.
-fn bind_and_do<H: Host>(alloc: Global, host: &mut H, plain: Plain<'_>) -> Status
+fn bind_and_do<H: Host>(alloc: Global, host: &mut H, plain: Plain<'_>) -> Answer
     requires { IsFree (H.seen host.old).world }
     ensures told { DoesSaid (meaning_of plain.entry) (H.seen host.old) (H.seen host.new) result }
-    ensures bound { BindsFiles (meaning_of plain.entry) (H.seen host.old) (H.seen host.new) result }
+    ensures bound { BindsFiles (meaning_of plain.entry) (H.seen host.old) (H.seen host.new) result.status }
     ensures unread { KeepsFiles (meaning_of plain.entry) (H.seen host.old) (H.seen host.new) }
 {
     match bind_all(host, &plain.names) {
         Bound::Yes => do_job(alloc, host, plain),
-        Bound::Failed => Status::HostFault,
+        Bound::Failed => Answer::of(Status::HostFault),
     }
 }
 
 // Does the job of a command, once its files are bound.
-fn do_job<H: Host>(alloc: Global, host: &mut H, plain: Plain<'_>) -> Status
+fn do_job<H: Host>(alloc: Global, host: &mut H, plain: Plain<'_>) -> Answer
     ensures told { DoesJob (meaning_of plain.entry) (H.seen host.old) (H.seen host.new) result }
     ensures stays { Stays (reads (meaning_of plain.entry).command) (H.seen host.old).world (H.seen host.new).world }
 {
@@ -157,7 +183,7 @@ fn do_job<H: Host>(alloc: Global, host: &mut H, plain: Plain<'_>) -> Status
 }
 
 // Does it with so many modules of core.
-fn do_job_in<const M: u32, H: Host>(alloc: Global, host: &mut H, plain: Plain<'_>) -> Status
+fn do_job_in<const M: u32, H: Host>(alloc: Global, host: &mut H, plain: Plain<'_>) -> Answer
     requires { IsSize M }
     ensures told { DoesJobIn M (meaning_of plain.entry) (H.seen host.old) (H.seen host.new) result }
     ensures stays { Stays (reads (meaning_of plain.entry).command) (H.seen host.old).world (H.seen host.new).world }

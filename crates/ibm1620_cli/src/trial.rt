@@ -6,6 +6,7 @@ ghost use Rattle.command_line.specs.Numbers.{AreNumbers};
 ghost use Rattle.ibm1620_cli.specs.Inputs.{reads_feed};
 ghost use Rattle.ibm1620_cli.specs.Parts.{IsSound, ReportsTrial, Stays};
 
+use crate::answer::Answer;
 use crate::execute::no_script;
 use crate::program::run_program;
 use crate::settings::Settings;
@@ -28,18 +29,18 @@ pub(crate) fn try_source<H: Host>(
     host: &mut H,
     statements: u32,
     number: u32,
-) -> Status
+) -> Answer
     requires fits { AreNumbers statements number }
     ensures promise { TriesSource statements number (H.seen host.old) (H.seen host.new) result }
     ensures stays { Stays reads_feed (H.seen host.old).world (H.seen host.new).world }
 {
     let source = match generate(alloc, statements, number) {
         Ok(source) => source,
-        Err(_) => return Status::OutOfMemory,
+        Err(_) => return Answer::of(Status::OutOfMemory),
     };
     match assemble_or_refuse::<1, H>(alloc, host, source) {
         Ok(sound) => try_assembled(alloc, host, &sound, statements, number),
-        Err(status) => status,
+        Err(answer) => answer,
     }
 }
 
@@ -50,7 +51,7 @@ fn try_assembled<H: Host>(
     sound: &SoundSource,
     statements: u32,
     number: u32,
-) -> Status
+) -> Answer
     requires is { IsSound trial_modules sound.now }
     ensures promise { TriesAssembled statements number sound.now.source.items
         (H.seen host.old) (H.seen host.new) result }
@@ -58,7 +59,7 @@ fn try_assembled<H: Host>(
 {
     let script = match no_script(alloc) {
         Ok(script) => script,
-        Err(_) => return Status::OutOfMemory,
+        Err(_) => return Answer::of(Status::OutOfMemory),
     };
     let settings = Settings {
         limit: TRIAL_LIMIT,
@@ -67,10 +68,11 @@ fn try_assembled<H: Host>(
     match write_source::<1, H>(alloc, host, sound, settings.form) {
         Ok(cards) => {
             let count = cards.len() as u32;
-            let status = run_program::<1, H>(alloc, host, cards, script, settings);
-            report_trial(host, status, statements, number, count)
+            let ran = run_program::<1, H>(alloc, host, cards, script, settings);
+            let status = report_trial(host, ran.status, statements, number, count);
+            Answer { status, ..ran }
         }
-        Err(status) => status,
+        Err(status) => Answer::of(status),
     }
 }
 

@@ -1,3 +1,4 @@
 pub mod Texts
 pub mod Listing
 pub mod Sending
+pub mod Refused

@@ -5,6 +5,7 @@ use crate::given::Given;
 use cpu_step::Machine;
 use digit_core::Core;
 use outside_io::MemHost;
+use read_checks::Tally;
 use std::alloc::{AllocError, Global};
 
 #[derive(Drop)]
@@ -14,6 +15,10 @@ pub(crate) struct Desk<const M: u32> {
     // Core as it was kept.
     pub(crate) kept: Core<M>,
     pub(crate) host: MemHost,
+    // The bad characters of texts that were taken up, beside those that the machine has read.
+    pub(crate) tally: Tally,
+    // The source of the row.
+    pub(crate) source: Vec<u8>,
 }
 
 impl<const M: u32> Desk<M> {
@@ -21,11 +26,15 @@ impl<const M: u32> Desk<M> {
     pub(crate) fn new(given: &Given) -> Result<Desk<M>, AllocError>
         requires { IsSize M }
     {
+        let mut source = Vec::new(given.alloc);
+        source.extend_from_slice(&given.source)?;
         Ok(Desk {
             alloc: given.alloc,
             machine: Machine::power_on(given.alloc, given.hopper()?)?,
             kept: Core::new(given.alloc)?,
             host: given.host()?,
+            tally: Tally::new(),
+            source,
         })
     }
 }

@@ -19,6 +19,8 @@ pub(crate) struct Given {
     pub(crate) size: u32,
     // What is done.
     pub(crate) lines: Vec<String>,
+    // The source deck of the row, which no unit has.
+    pub(crate) source: Vec<u8>,
     cards: Vec<Card>,
     deck: Vec<u8>,
     data: Vec<u8>,
@@ -35,6 +37,7 @@ impl Given {
             alloc,
             size: 1,
             lines: Vec::new(alloc),
+            source: Vec::new(alloc),
             cards: Vec::new(alloc),
             deck: Vec::new(alloc),
             data: Vec::new(alloc),
@@ -93,6 +96,7 @@ impl Given {
             "data" => add_line(&mut self.data, text)?,
             "keys" => add_line(&mut self.keys, text)?,
             "pack" => add_line(&mut self.pack, text)?,
+            "source" => add_line(&mut self.source, text)?,
             "card" => self.cards.push(card(text.as_bytes()))?,
             _ => return Ok(false),
         }

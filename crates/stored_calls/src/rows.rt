@@ -7,7 +7,8 @@ use crate::lines::RowLine;
 use crate::panel::lamps;
 use crate::texts::show_text;
 use crate::{
-    cards, cells, characters, disk, features, fetches, moves, panel, steps, sums, typing, words,
+    cards, cells, characters, disk, features, fetches, moves, panel, readings, refused, steps,
+    sums, typing, words,
 };
 use addr_indirect::Stop;
 use outside_io::Unit;
@@ -116,6 +117,8 @@ fn shows<const M: u32>(
         || panel::show(rt, alloc, &desk.machine.panel, line)?
         || cards::show(rt, desk, line)?
         || disk::show(rt, desk, line)?
+        || readings::show(rt, desk, line)?
+        || refused::show(rt, desk, line)?
         || show_output(rt, desk, line)?;
     Ok(is_known)
 }

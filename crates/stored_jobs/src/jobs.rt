@@ -1,8 +1,9 @@
 // A job: what a row says of it, and how it is done.
+use crate::answers::AnswerPart;
 use crate::files::{File, Files};
 use crate::lines::{RowLine, output_named};
 use crate::texts::{NotTaken, add_bytes};
-use ibm1620_cli::{Status, ibm1620};
+use ibm1620_cli::{Answer, ibm1620_answer};
 use outside_io::{MemHost, Unit};
 use std::alloc::{AllocError, Global};
 
@@ -30,6 +31,8 @@ pub(crate) struct Job {
     // The outputs whose texts are shown, all where the row names none, and those whose bytes are counted.
     pub(crate) shown: Option<Vec<Unit>>,
     pub(crate) counted: Vec<Unit>,
+    // The parts of the answer that are shown besides its status.
+    pub(crate) asked: Vec<AnswerPart>,
     pub(crate) files: Files,
     // The number of the call that fails.
     pub(crate) failing: Option<u64>,
@@ -48,6 +51,7 @@ impl Job {
             way: Way::Once,
             shown: None,
             counted: Vec::new(alloc),
+            asked: Vec::new(alloc),
             files: Files::new(alloc),
             failing: None,
             words: Vec::new(alloc),
@@ -93,6 +97,7 @@ impl Job {
             RowLine::Fail(call) => self.failing = Some(u64::from(call)),
             RowLine::Show(names) => self.shown = Some(outputs_named(self.alloc, names)?),
             RowLine::Count(names) => self.counted = outputs_named(self.alloc, names)?,
+            RowLine::Answer(names) => self.asked = parts_named(self.alloc, names)?,
             RowLine::Quiet => self.way = Way::Quiet,
             RowLine::Turns => self.way = Way::Turns,
         }
@@ -129,21 +134,21 @@ impl Job {
     // Does what the words say over the files, the call of this number failing.
     //
     // The error is want of memory for the host.
-    pub(crate) fn done(&self, failing: Option<u64>) -> Result<(Status, MemHost), AllocError> {
+    pub(crate) fn done(&self, failing: Option<u64>) -> Result<(Answer, MemHost), AllocError> {
         let mut host = self.files.host(self.alloc, self.room as usize)?;
         if let Some(call) = failing {
             host.fail(call)?;
         }
-        let status = ibm1620(self.alloc, &self.words, &mut host);
-        Ok((status, host))
+        let answer = ibm1620_answer(self.alloc, &self.words, &mut host);
+        Ok((answer, host))
     }
 
     // Does what the words say over the files, by a host that shows nothing.
     //
     // The error is want of memory for the host.
-    pub(crate) fn done_quietly(&self) -> Result<Status, AllocError> {
+    pub(crate) fn done_quietly(&self) -> Result<Answer, AllocError> {
         let mut host = self.files.quiet_host(self.alloc)?;
-        Ok(ibm1620(self.alloc, &self.words, &mut host))
+        Ok(ibm1620_answer(self.alloc, &self.words, &mut host))
     }
 }
 
@@ -154,4 +159,13 @@ fn outputs_named(alloc: Global, names: &str) -> Result<Vec<Unit>, NotTaken> {
         outputs.push(output_named(name).ok_or(NotTaken::Unknown)?)?;
     }
     Ok(outputs)
+}
+
+// The parts of an answer of a list of names.
+fn parts_named(alloc: Global, names: &str) -> Result<Vec<AnswerPart>, NotTaken> {
+    let mut parts = Vec::new(alloc);
+    for name in names.split_whitespace() {
+        parts.push(AnswerPart::named(name).ok_or(NotTaken::Unknown)?)?;
+    }
+    Ok(parts)
 }

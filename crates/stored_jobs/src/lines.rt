@@ -37,6 +37,8 @@ pub(crate) enum RowLine<'a> {
     Show(&'a str),
     // The outputs whose bytes are counted.
     Count(&'a str),
+    // The parts of the answer that are shown besides its status.
+    Answer(&'a str),
     // The host shows nothing.
     Quiet,
     // Each call fails in turn.
@@ -57,6 +59,7 @@ impl<'a> RowLine<'a> {
             "show" => Some(RowLine::Show(text)),
             "count" => Some(RowLine::Count(text)),
             "object" | "sectors" | "quiet" | "turns" if !text.is_empty() => None,
+            "answer" => Some(RowLine::Answer(text)),
             "object" => Some(RowLine::Object),
             "sectors" => Some(RowLine::Sectors),
             "quiet" => Some(RowLine::Quiet),

@@ -4,6 +4,7 @@
 //! the lines and what is printed of a row.
 #![tactic(auto)]
 
+mod answers;
 mod files;
 mod jobs;
 mod lines;

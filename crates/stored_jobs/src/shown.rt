@@ -1,10 +1,11 @@
 // What a row's job comes to, as it is shown.
+use crate::answers::{AnswerPart, show_console, show_refusal};
 use crate::files::Sector;
 use crate::jobs::{Job, Way};
 use crate::lines::OUTPUTS;
 use crate::texts::show_text;
 use crate::turns::show_turns;
-use ibm1620_cli::Status;
+use ibm1620_cli::Answer;
 use outside_io::{ALL_SECTORS, MemHost, Unit};
 use std::alloc::Global;
 use std::io;
@@ -63,27 +64,40 @@ fn show_outputs(rt: &impl Print, job: &Job, host: &MemHost) -> io::Result<()> {
 }
 
 // Does a job over a host in memory, and prints what is written.
-fn show_once(rt: &impl Print, job: &Job) -> io::Result<(Status, MemHost)> {
-    let (status, host) = job.done(job.failing)?;
+fn show_once(rt: &impl Print, job: &Job) -> io::Result<(Answer, MemHost)> {
+    let (answer, host) = job.done(job.failing)?;
     show_outputs(rt, job, &host)?;
     show_sectors(rt, job, &host)?;
-    Ok((status, host))
+    Ok((answer, host))
+}
+
+// Prints the parts of an answer that the row asks for.
+fn show_asked(rt: &impl Print, job: &Job, answer: &Answer) -> io::Result<()> {
+    if job.asked.contains(&AnswerPart::Console) {
+        show_console(rt, job.alloc, &answer.console)?;
+    }
+    if job.asked.contains(&AnswerPart::Refusal) {
+        show_refusal(rt, job.alloc, &answer.refusal)?;
+    }
+    Ok(())
 }
 
 // Does a job and prints what it comes to, its status and code last: the host, where it is one in memory.
 pub(crate) fn show(rt: &impl Print, job: &Job) -> io::Result<Option<MemHost>> {
     println!(rt; "row|{}", job.row)?;
-    let (status, host) = match job.way {
+    let (answer, host) = match job.way {
         Way::Once => {
-            let (status, host) = show_once(rt, job)?;
-            (status, Some(host))
+            let (answer, host) = show_once(rt, job)?;
+            (answer, Some(host))
         }
         Way::Quiet => (job.done_quietly()?, None),
         Way::Turns => {
-            let (status, host) = show_turns(rt, job)?;
-            (status, Some(host))
+            let (answer, host) = show_turns(rt, job)?;
+            (answer, Some(host))
         }
     };
+    show_asked(rt, job, &answer)?;
+    let status = answer.status;
     println!(rt; "status|{status:?}")?;
     println!(rt; "code|{}\n", status.code())?;
     Ok(host)

@@ -76,6 +76,15 @@ fn add_shown(alloc: Global, line: &mut String, byte: u8) -> Result<(), AllocErro
     }
 }
 
+// The bytes of a line as they are shown.
+pub(crate) fn shown_line(alloc: Global, text: &[u8]) -> Result<String, AllocError> {
+    let mut line = String::new(alloc);
+    for &byte in text {
+        add_shown(alloc, &mut line, byte)?;
+    }
+    Ok(line)
+}
+
 // Prints a text in lines behind a name, as `add_line` takes them.
 pub(crate) fn show_text(rt: &impl Print, alloc: Global, name: &str, text: &[u8]) -> io::Result<()> {
     let mut line = String::new(alloc);

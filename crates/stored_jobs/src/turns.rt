@@ -3,7 +3,7 @@ use crate::jobs::Job;
 use crate::lines::OUTPUTS;
 use crate::shown::{show_sector, written};
 use crate::texts::show_text;
-use ibm1620_cli::Status;
+use ibm1620_cli::{Answer, Status};
 use outside_io::{ALL_SECTORS, MemHost, Unit};
 use std::alloc::Global;
 use std::io;
@@ -96,26 +96,30 @@ impl WrittenPieces {
 }
 
 // Lets each call of the job fail in turn, until it makes no call of that number, and prints the pieces that it writes and the number of
-// its calls: the status that the job ends with then, and its host. A job that makes too many calls ends with a fault of the host.
-pub(crate) fn show_turns(rt: &impl Print, job: &Job) -> io::Result<(Status, MemHost)> {
+// its calls: the answer of the job then, and its host. A job that makes too many calls ends with a fault of the host.
+pub(crate) fn show_turns(rt: &impl Print, job: &Job) -> io::Result<(Answer, MemHost)> {
     let mut pieces = WrittenPieces {
         alloc: job.alloc,
         place: None,
     };
     let mut before = MemHost::new(job.alloc, 0)?;
-    let mut status = Status::HostFault;
+    let mut answer = Answer {
+        status: Status::HostFault,
+        console: None,
+        refusal: None,
+    };
     let mut calls = 0;
     for call in 1..MANY_CALLS {
         let (next, after) = job.done(Some(call))?;
         pieces.go_on(rt, &before, &after)?;
         before = after;
-        status = next;
-        if status != Status::HostFault {
+        answer = next;
+        if answer.status != Status::HostFault {
             break;
         }
         calls = call;
     }
     pieces.show(rt, &before)?;
     println!(rt; "calls|{calls}")?;
-    Ok((status, before))
+    Ok((answer, before))
 }

@@ -1,7 +1,9 @@
 pub mod Performing
 pub mod PairsTyped
 pub mod Keyboards
+pub mod ReadSame
 pub mod KeysTaken
 pub mod KeysRead
+pub mod LinesRead
 pub mod LinesTyped
 pub mod TensTyped

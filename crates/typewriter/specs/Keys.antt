@@ -1,9 +1,10 @@
 -- The lines that are still to be read from the keyboard, and how they are read into core.
 -- Source: CPU manual, read numerically and read alphamerically; what a line is, and the order of the parts, are this
 -- project's own.
-use Rattle.std.specs.Prelude.{ℕ, ◌-◌, List, Option, Some, None, Result, Ok, Err, ⊤}
+use Rattle.std.specs.Prelude.{ℕ, ◌-◌, List, [], ◌∷◌, ◌++◌, length, map, ◌≡◌, Option, Some, None, IfSome, Result, Ok, Err, ⊤}
+use Rattle.std.specs.List.{All}
 use Rattle.outside_io.specs.declared.host.Unit.TheVariants as units
-use Rattle.outside_io.specs.World.{World, Readings, Seen, Goes, world_after_take}
+use Rattle.outside_io.specs.World.{World, Readings, Seen, Goes, world_after_take, one_more}
 use Rattle.addr_indirect.specs.declared.Stop.{Stop}
 use Rattle.traces.specs.Trace.{Trace}
 use Rattle.traces.specs.Change.{Change}
@@ -13,6 +14,9 @@ use Rattle.card_code.specs.declared.lines.LineAnswer.TheVariants as answer
 use Rattle.card_code.specs.{text_of_line, Entry, next_keys, Intake, store_digits, store_pairs, entries_left, bytes_held, HasWhole, TakesNeeded}
 use Rattle.card_code.specs.Reader as lines
 use Rattle.card_code.specs.Feed.{Feed, TakesNext, take_next}
+use Rattle.read_checks.specs.declared.ReadAs.TheVariants.{Digit}
+use Rattle.read_checks.specs.declared.Tally.{Tally}
+use Rattle.read_checks.specs.Readings.{Reading, counted, tally_of, all_bad, entry_read, no_lines, AreNumbered}
 use Rattle.typewriter.specs.declared.keyboard.Keyboard.{Keyboard}
 
 -- the lines that are left, where they're told
@@ -67,3 +71,61 @@ read_numeric n p keys = take_keys keys (store_digits n p)
 -- RA from the keyboard: a line's pairs go from P-1 upwards
 abbrev pub read_alphameric : ℕ → ℕ → List Entry → Trace Intake ⊤ Break
 read_alphameric n p keys = take_keys keys (store_pairs n (p - 1))
+
+-- What was read.
+
+-- the lines that were read
+abbrev pub lines_read : Keyboard → ℕ
+lines_read keyboard = keyboard.read
+
+-- the bad characters of these
+abbrev pub bad_keys : Keyboard → Tally
+bad_keys keyboard = keyboard.bad
+
+-- WHAT A KEYBOARD HAS READ since it was made before these lines, by the readings of its lines in their order: they are lines of Keys, numbered
+-- as they stand there, and the tally is of the bad characters that were stored of them. Where the lines were told, those that were read and those that
+-- are left are all of them. No line was asked for before its turn.
+pub record HasReadBy (start : List Entry) (readings : List Reading) (keyboard : Keyboard) (w : World) : Type 0 where
+  pub turn : IsInTurn keyboard w
+  pub of_keys : All (λ r. r.unit ≡ units.Keys) readings
+  pub numbered : AreNumbered readings no_lines
+  pub read : keyboard.read ≡ counted (length readings)
+  pub tallied : keyboard.bad ≡ tally_of (all_bad readings)
+  pub all : IfSome (keys_left keyboard w) (λ left. start ≡ map entry_read readings ++ left)
+
+-- it has, by some readings
+pub record HasRead (start : List Entry) (keyboard : Keyboard) (w : World) : Type 0 where
+  pub readings : List Reading
+  pub by : HasReadBy start readings keyboard w
+
+-- the reading of the line that was taken last, while nothing of it is stored yet
+abbrev pub line_taken : Keyboard → List ℕ → Reading
+line_taken keyboard text = record { unit = units.Keys; line = keyboard.read; text = text; how = Digit; room = 0 }
+
+-- a line that is taken is one reading more; else the readings are the same
+abbrev pub HasTaken : List Entry → List Reading → Keyboard → World → LineAnswer → Type 0
+HasTaken start readings keyboard w (answer.Line line) =
+    HasReadBy start (readings ++ line_taken keyboard (text_of_line line) ∷ []) keyboard w
+HasTaken start readings keyboard w answer.End = HasReadBy start readings keyboard w
+HasTaken start readings keyboard w (answer.Jam n) = HasReadBy start readings keyboard w
+HasTaken start readings keyboard w answer.Failed = HasReadBy start readings keyboard w
+
+-- what the taking of a line adds to the readings
+abbrev pub TakesReading : Keyboard → Keyboard → Seen → Seen → LineAnswer → Type 0
+TakesReading old new before after got = (start : List Entry) (readings : List Reading)
+    → HasReadBy start readings old before.world → HasTaken start readings new after.world got
+
+-- how many lines were read, once this answer has come
+abbrev pub read_after : LineAnswer → ℕ → ℕ
+read_after (answer.Line line) read = one_more read
+read_after answer.End read = read
+read_after (answer.Jam n) read = read
+read_after answer.Failed read = read
+
+-- it goes on with that
+abbrev pub ReadsOn : Keyboard → Keyboard → Seen → Seen → Type 0
+ReadsOn old new before after = (start : List Entry) → HasRead start old before.world → HasRead start new after.world
+
+-- it has read nothing yet
+abbrev pub Begins : Keyboard → Type 0
+Begins keyboard = (start : List Entry) (w : World) → IfSome (keys_left keyboard w) (λ left. start ≡ left) → HasRead start keyboard w

@@ -1,9 +1,11 @@
 // Keyboard lines that are read into core.
-ghost use Rattle.std.specs.Prelude.{◌≡◌, ◌<◌, ◌+◌, ◌*◌, ◌%◌, ℕ};
+ghost use Rattle.std.specs.Prelude.{◌≡◌, ◌<◌, ◌≤◌, ◌+◌, ◌-◌, ◌*◌, ◌/◌, ◌%◌, ℕ, [], length, take, IfOk, false};
+ghost use Rattle.outside_io.specs.declared.host.Unit.TheVariants as units;
 ghost use Rattle.digit_core.specs.Size.{size};
-ghost use Rattle.typewriter.specs.KeyCalls.{Reads};
+ghost use Rattle.read_checks.specs.Readings.{bad_from, with_bad};
+ghost use Rattle.typewriter.specs.KeyCalls.{Reads, ReadsAsSaid, stored_ending};
 ghost use Rattle.card_code.specs.Feed.{station};
-ghost use Rattle.typewriter.specs.Keys.{read_numeric, read_alphameric, HoldsLine, AsksNeeded, KeepsTurn};
+ghost use Rattle.typewriter.specs.Keys.{read_numeric, read_alphameric, HoldsLine, AsksNeeded, ReadsOn};
 
 use crate::keyboard::Keyboard;
 use addr_indirect::Stop;
@@ -11,6 +13,7 @@ use card_code::{LineAnswer, store_digits, store_pairs};
 use digit_core::Core;
 use indicators::Panel;
 use outside_io::Host;
+use read_checks::ReadAs;
 
 /// How an instruction ends that reads from the keyboard.
 ///
@@ -36,12 +39,15 @@ pub enum KeyIo {
 /// where no line is left. `Jam` exactly where the next line is over 80 bytes; it stays, so each later call answers the same. `Failed`
 /// only where the host's count of faults rose. These three leave core, panel and keyboard as they were.
 ///
+/// The line counts as one that was read, and the bad ones among the characters that were stored of it are tallied, also where the
+/// instruction stops: a character for which there was no room in core is not among them. See [`Keyboard::bad_characters`].
+///
 /// No line is taken early: the host is asked only while the next line isn't held, so over a pipe a line is answered before the one
 /// behind it is typed. That holds of all that was asked since the keyboard was made, and not of this call alone: as long as only lines
 /// are read, the unit Keys was asked for no more than the lines that were taken and the next one need.
 ///
 /// Stops: 2 where a digit's position is past the end of core; the digits before it stay, and the line is gone.
-/// Source: CPU manual, read numerically; what a line is, and the order of the parts, are this project's own.
+/// Source: CPU manual, read numerically; what a line is, the order of the parts, and the tally are this project's own.
 pub fn read_num<const M: u32, H: Host>(
     core: &mut Core<M>,
     p: u32,
@@ -55,13 +61,16 @@ pub fn read_num<const M: u32, H: Host>(
         Reads (read_numeric (size M) p) before after result }
     ensures still { HoldsLine keys.old → H.seen host.new ≡ H.seen host.old }
     ensures needed { AsksNeeded keys.old (H.seen host.old) (H.seen host.new) }
-    ensures turn { KeepsTurn keys.old keys.new (H.seen host.old) (H.seen host.new) }
+    ensures reads_on { ReadsOn keys.old keys.new (H.seen host.old) (H.seen host.new) }
+    ensures as_said { ReadsAsSaid ReadAs.Digit (size M - p) keys.old keys.new (H.seen host.old) (H.seen host.new) result }
 {
     match keys.next_line(host) {
-        LineAnswer::Line(line) => match store_digits(core, p, line.as_bytes(), panel) {
-            Ok(()) => KeyIo::Done,
-            Err(stop) => KeyIo::Stop(stop),
-        },
+        LineAnswer::Line(line) => {
+            let text = line.as_bytes();
+            let room = (core.size() - p) as usize;
+            let stored = store_digits(core, p, text, panel);
+            end(keys, ReadAs::Digit, text, room, stored, panel)
+        }
         LineAnswer::End => KeyIo::NoKeys,
         LineAnswer::Jam(number) => KeyIo::Jam(number),
         LineAnswer::Failed => KeyIo::Failed,
@@ -72,10 +81,11 @@ pub fn read_num<const M: u32, H: Host>(
 ///
 /// `p` is an odd address, below N. The line is taken first, and then its digits are stored one after another, without flags and the
 /// zone first; an empty line is taken and stores nothing. A bad character is stored as 00, and the read check 06 goes on as the first
-/// of its digits is stored. `NoKeys`, `Jam` and `Failed` come as with [`read_num`], and no line is taken early.
+/// of its digits is stored. `NoKeys`, `Jam` and `Failed` come as with [`read_num`], and no line is taken early. The line and its bad
+/// characters are counted as with [`read_num`]; a character is stored where there is room for both of its digits.
 ///
 /// Stops: 2 where a digit's position is past the end of core; the digits before it stay, and the line is gone.
-/// Source: CPU manual, read alphamerically; what a line is, and the order of the parts, are this project's own.
+/// Source: CPU manual, read alphamerically; what a line is, the order of the parts, and the tally are this project's own.
 pub fn read_alpha<const M: u32, H: Host>(
     core: &mut Core<M>,
     p: u32,
@@ -90,15 +100,48 @@ pub fn read_alpha<const M: u32, H: Host>(
         Reads (read_alphameric (size M) p) before after result }
     ensures still { HoldsLine keys.old → H.seen host.new ≡ H.seen host.old }
     ensures needed { AsksNeeded keys.old (H.seen host.old) (H.seen host.new) }
-    ensures turn { KeepsTurn keys.old keys.new (H.seen host.old) (H.seen host.new) }
+    ensures reads_on { ReadsOn keys.old keys.new (H.seen host.old) (H.seen host.new) }
+    ensures as_said { ReadsAsSaid ReadAs.Pair ((size M - (p - 1)) / 2) keys.old keys.new (H.seen host.old) (H.seen host.new) result }
 {
     match keys.next_line(host) {
-        LineAnswer::Line(line) => match store_pairs(core, p - 1, line.as_bytes(), panel) {
-            Ok(()) => KeyIo::Done,
-            Err(stop) => KeyIo::Stop(stop),
-        },
+        LineAnswer::Line(line) => {
+            let text = line.as_bytes();
+            let room = ((core.size() - (p - 1)) / 2) as usize;
+            let stored = store_pairs(core, p - 1, text, panel);
+            end(keys, ReadAs::Pair, text, room, stored, panel)
+        }
         LineAnswer::End => KeyIo::NoKeys,
         LineAnswer::Jam(number) => KeyIo::Jam(number),
         LineAnswer::Failed => KeyIo::Failed,
+    }
+}
+
+// How a reading ends of whose line so much was stored. The bad ones among its first characters, as many as core had room for, are taken up;
+// while 06 is off behind a line that was stored whole, there are none.
+fn end(
+    keys: &mut Keyboard,
+    how: ReadAs,
+    text: &[u8],
+    room: usize,
+    stored: Result<(), Stop>,
+    panel: &Panel,
+) -> KeyIo
+    requires short { length text.now ≤ 80 }
+    requires good { IfOk stored (λ _. panel.now.read_check ≡ false
+        → bad_from units.Keys keys.old.read how 1 (take room text.now) ≡ []) }
+    ensures tallied { keys.new ≡ record keys.old { bad = with_bad (bad_from units.Keys keys.old.read how 1 (take room text.now)) keys.old.bad } }
+    ensures answer { result ≡ stored_ending stored }
+{
+    match stored {
+        Ok(()) => {
+            if panel.read_check {
+                keys.take_up(how, text, room);
+            }
+            KeyIo::Done
+        }
+        Err(stop) => {
+            keys.take_up(how, text, room);
+            KeyIo::Stop(stop)
+        }
     }
 }

@@ -15,10 +15,10 @@ returns-in-Ok-clause-promise g c =
 
 pub returns-in-Err-clause-promise : goal.returns-in-Err-clause-promise
 returns-in-Err-clause-promise g c =
-    ends_at_source g.row.M nothing_done (written_promise g.row.M c.args.form) (written_follows g.row.M c.args.form) (g.H.Host.seen c.args.host.now) (g.H.Host.seen c.read_source.new.host) c.in-Err.status c.in-Err.ensures
+    ends_at_source g.row.M nothing_done (written_promise g.row.M c.args.form) (written_follows g.row.M c.args.form) (g.H.Host.seen c.args.host.now) (g.H.Host.seen c.read_source.new.host) c.in-Err.answer c.in-Err.ensures
 
 pub returns-in-Ok-clause-stays : goal.returns-in-Ok-clause-stays
 returns-in-Ok-clause-stays g c = stays_on reads_source (g.H.Host.seen c.args.host.now).world (g.H.Host.seen c.read_source.new.host).world (g.H.Host.seen c.write_assembled.new.host).world (takes_stays units.Source (g.H.Host.seen c.args.host.now) (g.H.Host.seen c.read_source.new.host) _ c.in-Ok.ensures.0) c.write_assembled.ensures.stays
 
 pub returns-in-Err-clause-stays : goal.returns-in-Err-clause-stays
-returns-in-Err-clause-stays g c = ended_stays g.row.M (g.H.Host.seen c.args.host.now) (g.H.Host.seen c.read_source.new.host) c.in-Err.status c.in-Err.ensures
+returns-in-Err-clause-stays g c = ended_stays g.row.M (g.H.Host.seen c.args.host.now) (g.H.Host.seen c.read_source.new.host) c.in-Err.answer c.in-Err.ensures

@@ -1,7 +1,8 @@
-use Rattle.std.proofs.Common.{◌∙◌, ℕ, List, ap, subst}
+use Rattle.std.proofs.Common.{◌∙◌, ℕ, List, map, ap, subst}
 use Rattle.std.specs.Prelude.{Some}
 use Rattle.outside_io.specs.Events.{after_events}
 use Rattle.outside_io.proofs.EventLemmas.{same_of}
+use Rattle.card_code.specs.Entries.{Text}
 use Rattle.card_unit.specs.Hopper.{cards_and_data}
 use Rattle.operator_script.specs.Scripts.{lines_left}
 use Rattle.sps_pass_two.specs.Assembled.{PlacedText}
@@ -23,12 +24,14 @@ returns-in-Ok-clause-promise g c =
     (promise_holds (made_events made) c.args.settings.limit _ (program_of g.row.M c.args.settings.form c.args.sound.now.source.items) c.of_cards.result c.args.script c.args.commands (g.H.Host.seen c.args.host.now) (g.H.Host.seen c.write_source.new.host) c.in-Ok.ensures.does.0.later
     (same_of (g.H.Host.seen c.write_source.new.host).world (after_events (g.H.Host.seen c.args.host.now).world (made_events made)) c.in-Ok.ensures.does.0.world) (goes_unasked (made_events made) (g.H.Host.seen c.args.host.now) (g.H.Host.seen c.write_source.new.host) c.in-Ok.ensures.does.0) (makings_of made)
     (λ w. c.of_cards.ensures.left w ∙ ap (λ (texts : List (List ℕ)). cards_and_data texts w) c.in-Ok.ensures.does.1.are)
-    (c.of_cards.ensures.own ∙ ap (λ (texts : List (List ℕ)). Some texts) c.in-Ok.ensures.does.1.are) c.of_cards.ensures.ahead (g.H.Host.seen c.hold_session.new.host) c.hold_session.result
+    (λ w. c.of_cards.ensures.deck w ∙ ap (λ (texts : List (List ℕ)). Some (map Text texts)) c.in-Ok.ensures.does.1.are)
+    (c.of_cards.ensures.own ∙ ap (λ (texts : List (List ℕ)). Some texts) c.in-Ok.ensures.does.1.are) c.of_cards.ensures.begins (g.H.Host.seen c.hold_session.new.host) c.hold_session.result
     (subst (λ (ps : List PlacedText). HoldsSession g.row.M c.args.settings.limit ps c.of_cards.result c.args.script c.args.commands (g.H.Host.seen c.write_source.new.host) (g.H.Host.seen c.hold_session.new.host) c.hold_session.result) c.requires.is.placed_are c.hold_session.ensures))
 
 pub returns-in-Err-clause-promise : goal.returns-in-Err-clause-promise
 returns-in-Err-clause-promise g c =
-    promise_debug_unwritten g.row.M c.args.settings.form c.args.settings.limit (lines_left c.args.script) (command_list c.args.commands) c.args.sound.now.source.items (g.H.Host.seen c.args.host.now) (g.H.Host.seen c.write_source.new.host) c.in-Err.status c.in-Err.ensures.does
+    rw c.of.ensures
+    (promise_debug_unwritten g.row.M c.args.settings.form c.args.settings.limit (lines_left c.args.script) (command_list c.args.commands) c.args.sound.now.source.items (g.H.Host.seen c.args.host.now) (g.H.Host.seen c.write_source.new.host) c.in-Err.status c.in-Err.ensures.does)
 
 pub returns-in-Ok-clause-stays : goal.returns-in-Ok-clause-stays
 returns-in-Ok-clause-stays g c = stays_again (g.H.Host.seen c.args.host.now).world (g.H.Host.seen c.write_source.new.host).world (g.H.Host.seen c.hold_session.new.host).world (stays_none reads_feed (g.H.Host.seen c.args.host.now).world (g.H.Host.seen c.write_source.new.host).world c.in-Ok.ensures.stays) (session_stays g.row.M c.args.settings.limit _ c.of_cards.result c.args.script c.args.commands (g.H.Host.seen c.write_source.new.host) (g.H.Host.seen c.hold_session.new.host) c.hold_session.result c.hold_session.ensures)

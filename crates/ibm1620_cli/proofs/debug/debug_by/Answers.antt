@@ -17,10 +17,10 @@ returns-in-Ok-clause-promise g c =
 
 pub returns-in-Err-clause-promise : goal.returns-in-Err-clause-promise
 returns-in-Err-clause-promise g c =
-    ends_at_source g.row.M (events_at g.row.M c.args.settings.form) (debugged_promise g.row.M c.args.settings.form c.args.settings.limit (lines_left c.args.script) (command_list c.args.commands)) (debugged_follows g.row.M c.args.settings.form c.args.settings.limit (lines_left c.args.script) (command_list c.args.commands)) (g.H.Host.seen c.args.host.now) (g.H.Host.seen c.read_source.new.host) c.in-Err.status c.in-Err.ensures
+    ends_at_source g.row.M (events_at g.row.M c.args.settings.form) (debugged_promise g.row.M c.args.settings.form c.args.settings.limit (lines_left c.args.script) (command_list c.args.commands)) (debugged_follows g.row.M c.args.settings.form c.args.settings.limit (lines_left c.args.script) (command_list c.args.commands)) (g.H.Host.seen c.args.host.now) (g.H.Host.seen c.read_source.new.host) c.in-Err.answer c.in-Err.ensures
 
 pub returns-in-Ok-clause-stays : goal.returns-in-Ok-clause-stays
 returns-in-Ok-clause-stays g c = read_then units.Source reads_feed (g.H.Host.seen c.args.host.now) (g.H.Host.seen c.read_source.new.host) (g.H.Host.seen c.debug_assembled.new.host) _ refl c.in-Ok.ensures.0 c.debug_assembled.ensures.stays
 
 pub returns-in-Err-clause-stays : goal.returns-in-Err-clause-stays
-returns-in-Err-clause-stays g c = ended_then reads_feed g.row.M (g.H.Host.seen c.args.host.now) (g.H.Host.seen c.read_source.new.host) c.in-Err.status c.in-Err.ensures
+returns-in-Err-clause-stays g c = ended_then reads_feed g.row.M (g.H.Host.seen c.args.host.now) (g.H.Host.seen c.read_source.new.host) c.in-Err.answer c.in-Err.ensures

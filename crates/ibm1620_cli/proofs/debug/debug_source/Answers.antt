@@ -6,7 +6,7 @@ use Rattle.operator_script.specs.Scripts.{lines_left}
 use Rattle.ibm1620_cli.specs.Source.{events_at}
 use Rattle.ibm1620_cli.specs.LoadJob.{script_read}
 use Rattle.ibm1620_cli.specs.DebugJob.{lines_promise}
-use Rattle.ibm1620_cli.specs.Promise.{world_with_texts}
+use Rattle.ibm1620_cli.specs.Promise.{answer_of, world_with_texts}
 use Rattle.ibm1620_cli.proofs.Readings.{promise_unread, keeps_read, tells_script, script_alone, read_then, unread_then}
 use Rattle.ibm1620_cli.proofs.Debugged.{script_apart}
 use Rattle.outside_io.specs.declared.host.Unit.TheVariants as units
@@ -24,7 +24,9 @@ returns-in-Ok-clause-promise g c =
     (ap (λ (w : World). lines_promise g.row.M c.args.settings.form c.args.settings.limit (lines_left c.in-Ok.script) (world_with_texts kept.texts w)) takes.goes.world ∙ script_apart g.row.M c.args.settings.form c.args.settings.limit (lines_left c.in-Ok.script) takes.gone takes.text kept.texts start.world) refl refl (λ P made. made) c.debug_under.result kept.keeps
 
 pub returns-in-Err-clause-promise : goal.returns-in-Err-clause-promise
-returns-in-Err-clause-promise g c = promise_unread Script refl (script_read g.row.M) (events_at g.row.M c.args.settings.form) (lines_promise g.row.M c.args.settings.form c.args.settings.limit) (g.H.Host.seen c.args.host.now) (g.H.Host.seen c.read_script.new.host) (g.H.Host.seen c.report.new.host) (script_alone (g.H.Host.seen c.args.host.now).world) c.in-Err.status c.report.result c.in-Err.ensures c.report.ensures
+returns-in-Err-clause-promise g c =
+    rw c.of.ensures
+    (promise_unread Script refl (script_read g.row.M) (events_at g.row.M c.args.settings.form) (lines_promise g.row.M c.args.settings.form c.args.settings.limit) (g.H.Host.seen c.args.host.now) (g.H.Host.seen c.read_script.new.host) (g.H.Host.seen c.report.new.host) (script_alone (g.H.Host.seen c.args.host.now).world) c.in-Err.status (answer_of c.report.result) c.in-Err.ensures c.report.ensures (record { console = refl; refusal = refl }))
 
 pub returns-in-Ok-clause-stays : goal.returns-in-Ok-clause-stays
 returns-in-Ok-clause-stays g c = read_then units.Script reads_session (g.H.Host.seen c.args.host.now) (g.H.Host.seen c.read_script.new.host) (g.H.Host.seen c.debug_under.new.host) _ refl c.in-Ok.ensures.0 c.debug_under.ensures.stays

@@ -13,8 +13,8 @@ use Rattle.ibm1620_cli.specs.Inputs.{reads_pack}
 use Rattle.ibm1620_cli.proofs.Kept.{report_stays, stays_on, stays_same}
 use Rattle.ibm1620_cli.proofs.disk.place_assembled.Goals as goal
 
-pub overflow_cast-len : goal.overflow_cast-len
-overflow_cast-len g c =
+pub overflow_cast-placed : goal.overflow_cast-placed
+overflow_cast-placed g c =
     let most : length c.in-Ok.cards.items ≤ 600 + 1 = c.in-Ok.ensures.most in
     let is = c.len.ensures ∙ c.in-Ok.cards.ok.0 in
     omega arith
@@ -27,16 +27,18 @@ returns-in-Done-clause-promise g c =
     let cards = c.len.ensures ∙ c.in-Ok.cards.ok.0 ∙ sym (length-map c.in-Ok.cards.items card_bytes) ∙ ap (λ (d : List (List ℕ)). length d) c.in-Ok.ensures.is in
     let object : c.deref-2.result.now ≡ deck_text (bootstrap c.args.sound.now.assembled.image.pieces c.args.sound.now.assembled.start) =
     c.deref-2.ensures.value ∙ c.in-Ok-deck_bytes.ensures ∙ ap (λ cs. deck_text (map card_bytes cs)) c.deref.ensures.value ∙ ap deck_text c.in-Ok.ensures.is in
-    promise_placed g.row.M c.args.sound.now.source.items old mid new c.report.result
+    rw c.of-in-Done.ensures
+    (promise_placed g.row.M c.args.sound.now.source.items old mid new c.report.result
     (subst (λ (p : Placing). Goes (g.H.Host.seen c.args.host.now) (g.H.Host.seen c.write_placed.new.host) (after_events (g.H.Host.seen c.args.host.now).world (placing_events p))) (placing_is g.row.M c.args.sound.now.source.items c.args.sound.now.assembled c.requires.is c.deref-2.result.now object) c.in-Done.ensures.does)
-    (subst (λ (s : Status). Reports (g.H.Host.seen c.write_placed.new.host) (g.H.Host.seen c.report.new.host) s c.report.result) (placed_is g.row.M c.args.sound.now.source.items c.args.sound.now.assembled c.requires.is c.sector_count.result c.len.result c.sector_count.ensures cards) c.report.ensures)
+    (subst (λ (s : Status). Reports (g.H.Host.seen c.write_placed.new.host) (g.H.Host.seen c.report.new.host) s c.report.result) (placed_is g.row.M c.args.sound.now.source.items c.args.sound.now.assembled c.requires.is c.sector_count.result c.len.result c.sector_count.ensures cards) c.report.ensures))
 
 pub returns-clause-promise : goal.returns-clause-promise
 returns-clause-promise g c =
     let object : c.deref-2.result.now ≡ deck_text (bootstrap c.args.sound.now.assembled.image.pieces c.args.sound.now.assembled.start) =
     c.deref-2.ensures.value ∙ c.in-Ok-deck_bytes.ensures ∙ ap (λ cs. deck_text (map card_bytes cs)) c.deref.ensures.value ∙ ap deck_text c.in-Ok.ensures.is in
-    promise_placed_stops g.row.M c.args.sound.now.source.items (g.H.Host.seen c.args.host.now) (g.H.Host.seen c.write_placed.new.host)
-    (subst (λ (p : Placing). StopsWithin (placing_events p) (g.H.Host.seen c.args.host.now) (g.H.Host.seen c.write_placed.new.host)) (placing_is g.row.M c.args.sound.now.source.items c.args.sound.now.assembled c.requires.is c.deref-2.result.now object) c.in-Failed.ensures.does)
+    rw c.of-in-Failed.ensures
+    (promise_placed_stops g.row.M c.args.sound.now.source.items (g.H.Host.seen c.args.host.now) (g.H.Host.seen c.write_placed.new.host)
+    (subst (λ (p : Placing). StopsWithin (placing_events p) (g.H.Host.seen c.args.host.now) (g.H.Host.seen c.write_placed.new.host)) (placing_is g.row.M c.args.sound.now.source.items c.args.sound.now.assembled c.requires.is c.deref-2.result.now object) c.in-Failed.ensures.does))
 
 pub returns-in-Done-clause-stays : goal.returns-in-Done-clause-stays
 returns-in-Done-clause-stays g c = stays_on reads_pack (g.H.Host.seen c.args.host.now).world (g.H.Host.seen c.write_placed.new.host).world (g.H.Host.seen c.report.new.host).world c.in-Done.ensures.stays (report_stays (g.H.Host.seen c.write_placed.new.host) (g.H.Host.seen c.report.new.host) _ _ c.report.result c.report.ensures)

@@ -15,10 +15,10 @@ returns-in-Ok-clause-promise g c =
 
 pub returns-in-Err-clause-promise : goal.returns-in-Err-clause-promise
 returns-in-Err-clause-promise g c =
-    ends_at_source g.row.M nothing_done (placing_promise g.row.M) (placing_follows g.row.M) (g.H.Host.seen c.args.host.now) (g.H.Host.seen c.read_source.new.host) c.in-Err.status c.in-Err.ensures
+    ends_at_source g.row.M nothing_done (placing_promise g.row.M) (placing_follows g.row.M) (g.H.Host.seen c.args.host.now) (g.H.Host.seen c.read_source.new.host) c.in-Err.answer c.in-Err.ensures
 
 pub returns-in-Ok-clause-stays : goal.returns-in-Ok-clause-stays
 returns-in-Ok-clause-stays g c = read_then units.Source reads_pack (g.H.Host.seen c.args.host.now) (g.H.Host.seen c.read_source.new.host) (g.H.Host.seen c.place_assembled.new.host) _ refl c.in-Ok.ensures.0 c.place_assembled.ensures.stays
 
 pub returns-in-Err-clause-stays : goal.returns-in-Err-clause-stays
-returns-in-Err-clause-stays g c = ended_then reads_pack g.row.M (g.H.Host.seen c.args.host.now) (g.H.Host.seen c.read_source.new.host) c.in-Err.status c.in-Err.ensures
+returns-in-Err-clause-stays g c = ended_then reads_pack g.row.M (g.H.Host.seen c.args.host.now) (g.H.Host.seen c.read_source.new.host) c.in-Err.answer c.in-Err.ensures

@@ -1,7 +1,7 @@
 use Rattle.std.proofs.Common.{refl, ap}
 use Rattle.operator_script.specs.Scripts.{lines_left}
 use Rattle.outside_io.specs.declared.host.Unit.TheVariants.{Script}
-use Rattle.ibm1620_cli.specs.Promise.{nothing_done}
+use Rattle.ibm1620_cli.specs.Promise.{answer_of, nothing_done}
 use Rattle.ibm1620_cli.specs.LoadJob.{script_read, loaded_promise}
 use Rattle.ibm1620_cli.proofs.Readings.{keeps_read, promise_unread, script_alone, read_then, unread_then}
 use Rattle.outside_io.specs.declared.host.Unit.TheVariants as units
@@ -17,7 +17,8 @@ returns-in-Ok-clause-promise g c =
 
 pub returns-in-Err-clause-promise : goal.returns-in-Err-clause-promise
 returns-in-Err-clause-promise g c =
-    promise_unread Script refl (script_read g.row.M) nothing_done (loaded_promise g.row.M c.args.limit) (g.H.Host.seen c.args.host.now) (g.H.Host.seen c.read_script.new.host) (g.H.Host.seen c.report.new.host) (script_alone (g.H.Host.seen c.args.host.now).world) c.in-Err.status c.report.result c.in-Err.ensures c.report.ensures
+    rw c.of.ensures
+    (promise_unread Script refl (script_read g.row.M) nothing_done (loaded_promise g.row.M c.args.limit) (g.H.Host.seen c.args.host.now) (g.H.Host.seen c.read_script.new.host) (g.H.Host.seen c.report.new.host) (script_alone (g.H.Host.seen c.args.host.now).world) c.in-Err.status (answer_of c.report.result) c.in-Err.ensures c.report.ensures (record { console = refl; refusal = refl }))
 
 pub returns-in-Ok-clause-stays : goal.returns-in-Ok-clause-stays
 returns-in-Ok-clause-stays g c = read_then units.Script reads_feed (g.H.Host.seen c.args.host.now) (g.H.Host.seen c.read_script.new.host) (g.H.Host.seen c.load_deck.new.host) _ refl c.in-Ok.ensures.0 c.load_deck.ensures.stays

@@ -1,5 +1,8 @@
-use Rattle.std.proofs.Common.{refl, inl}
+use Rattle.std.proofs.Common.{refl, inl, inr}
 use Rattle.ibm1620_cli.proofs.source.refuse.Goals as goal
 
 pub returns-in-Done : goal.returns-in-Done
-returns-in-Done g c = inl (refl, c.in-Done.ensures)
+returns-in-Done g c = record { reports = inl (refl, c.in-Done.ensures); console = refl; shows = λ other. c.refused_line.ensures; unshown = λ is. cc }
+
+pub returns-in-Failed : goal.returns-in-Failed
+returns-in-Failed g c = rw c.of.ensures (record { reports = inr (refl, c.in-Failed.ensures); console = refl; shows = λ other. absurd (other refl); unshown = λ is. refl })

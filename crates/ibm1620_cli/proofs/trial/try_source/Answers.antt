@@ -12,7 +12,7 @@ use Rattle.ibm1620_cli.proofs.Sources.{refuses_stays}
 use Rattle.ibm1620_cli.proofs.trial.try_source.Goals as goal
 
 pub returns-in-Err-clause-promise : goal.returns-in-Err-clause-promise
-returns-in-Err-clause-promise g c = trial_lacks c.args.statements c.args.number (g.H.Host.seen c.args.host.now)
+returns-in-Err-clause-promise g c = rw c.of.ensures (trial_lacks c.args.statements c.args.number (g.H.Host.seen c.args.host.now))
 
 pub returns-in-Ok-assemble_or_refuse-clause-promise : goal.returns-in-Ok-assemble_or_refuse-clause-promise
 returns-in-Ok-assemble_or_refuse-clause-promise g c =
@@ -26,8 +26,8 @@ returns-in-Ok-assemble_or_refuse-clause-promise g c =
 
 pub returns-in-Err-assemble_or_refuse-clause-promise : goal.returns-in-Err-assemble_or_refuse-clause-promise
 returns-in-Err-assemble_or_refuse-clause-promise g c =
-    trial_refused c.args.statements c.args.number (g.H.Host.seen c.args.host.now) (g.H.Host.seen c.assemble_or_refuse.new.host) c.in-Err-assemble_or_refuse.status
-    (subst (λ (t : List ℕ). RefusesSource 1 t (g.H.Host.seen c.args.host.now) (g.H.Host.seen c.assemble_or_refuse.new.host) c.in-Err-assemble_or_refuse.status) c.in-Ok.ensures c.in-Err-assemble_or_refuse.ensures)
+    trial_refused c.args.statements c.args.number (g.H.Host.seen c.args.host.now) (g.H.Host.seen c.assemble_or_refuse.new.host) c.in-Err-assemble_or_refuse.answer
+    (subst (λ (t : List ℕ). RefusesSource 1 t (g.H.Host.seen c.args.host.now) (g.H.Host.seen c.assemble_or_refuse.new.host) c.in-Err-assemble_or_refuse.answer) c.in-Ok.ensures c.in-Err-assemble_or_refuse.ensures)
 
 pub returns-in-Err-clause-stays : goal.returns-in-Err-clause-stays
 returns-in-Err-clause-stays g c = stays_same reads_feed (g.H.Host.seen c.args.host.now) (g.H.Host.seen c.args.host.now) refl
@@ -36,4 +36,4 @@ pub returns-in-Ok-assemble_or_refuse-clause-stays : goal.returns-in-Ok-assemble_
 returns-in-Ok-assemble_or_refuse-clause-stays g c = subst (λ (mid : Seen). Stays reads_feed mid.world (g.H.Host.seen c.try_assembled.new.host).world) c.in-Ok-assemble_or_refuse.ensures.2 c.try_assembled.ensures.stays
 
 pub returns-in-Err-assemble_or_refuse-clause-stays : goal.returns-in-Err-assemble_or_refuse-clause-stays
-returns-in-Err-assemble_or_refuse-clause-stays g c = stays_none reads_feed (g.H.Host.seen c.args.host.now).world (g.H.Host.seen c.assemble_or_refuse.new.host).world (refuses_stays 1 _ (g.H.Host.seen c.args.host.now) (g.H.Host.seen c.assemble_or_refuse.new.host) c.in-Err-assemble_or_refuse.status c.in-Err-assemble_or_refuse.ensures)
+returns-in-Err-assemble_or_refuse-clause-stays g c = stays_none reads_feed (g.H.Host.seen c.args.host.now).world (g.H.Host.seen c.assemble_or_refuse.new.host).world (refuses_stays 1 _ (g.H.Host.seen c.args.host.now) (g.H.Host.seen c.assemble_or_refuse.new.host) c.in-Err-assemble_or_refuse.answer c.in-Err-assemble_or_refuse.ensures)

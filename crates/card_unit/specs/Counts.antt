@@ -1,0 +1,21 @@
+-- How many cards were read.
+use Rattle.std.specs.Prelude.{ℕ, ◌-◌, min}
+use Rattle.outside_io.specs.declared.host.Unit as unit
+use Rattle.outside_io.specs.declared.host.Unit.TheVariants as units
+use Rattle.outside_io.specs.World.{one_more}
+use Rattle.read_checks.specs.Readings.{counted}
+use Rattle.card_unit.specs.declared.counts.CardsRead.{CardsRead}
+
+-- one more card was read of a unit
+abbrev pub one_more_read : unit.Unit → CardsRead → CardsRead
+one_more_read units.Data read = record { of_deck = read.of_deck; of_data = one_more read.of_data }
+one_more_read u read = record { of_deck = one_more read.of_deck; of_data = read.of_data }
+
+-- the number in its unit of the card that was read last
+abbrev pub line_of : unit.Unit → CardsRead → ℕ
+line_of units.Data read = read.of_data
+line_of u read = read.of_deck
+
+-- so many cards were read of a pile with so many, and of Data behind it, when so many were read in all
+abbrev pub cards_of : ℕ → ℕ → CardsRead
+cards_of pile taken = record { of_deck = counted (min taken pile); of_data = counted (taken - pile) }

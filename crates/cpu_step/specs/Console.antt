@@ -1,0 +1,37 @@
+-- What an operator sees of a machine, and what its units have read.
+-- Source: CPU manual, console registers, indicators and switches; the rest is this project's own.
+use Rattle.std.specs.Prelude.{ℕ, ◌+◌, nat_le, List, length, take, drop, if◌then◌else◌, Option, Some, None}
+use Rattle.indicators.specs.declared.Panel.{Panel}
+use Rattle.branch_ops.specs.declared.Regs.{Regs}
+use Rattle.card_unit.specs.declared.hopper.Hopper.{Hopper}
+use Rattle.card_unit.specs.Hopper.{cards_read, bad_cards}
+use Rattle.typewriter.specs.declared.keyboard.Keyboard.{Keyboard}
+use Rattle.typewriter.specs.Keys.{lines_read, bad_keys}
+use Rattle.cpu_step.specs.declared.console.Console.{Console}
+use Rattle.cpu_step.specs.declared.machine.Machine.{Machine}
+use Rattle.cpu_step.specs.State.{State}
+
+-- the twelve cells that stand at an address, where they all lie in core
+abbrev pub cells_at : List ℕ → ℕ → Option (List ℕ)
+cells_at core a = if nat_le (a + 12) (length core) then Some (take 12 (drop a core)) else None
+
+-- what is shown of core, registers, panel and arms, and of what was read
+abbrev pub shown_by : List ℕ → Regs → Panel → List ℕ → Hopper → Keyboard → Console
+shown_by core regs panel arms hopper keyboard = record {
+  regs = regs;
+  cells = cells_at core regs.ir;
+  panel = panel;
+  arms = arms;
+  cards = cards_read hopper;
+  bad_cards = bad_cards hopper;
+  lines = lines_read keyboard;
+  bad_keys = bad_keys keyboard;
+}
+
+-- what is shown of a machine
+abbrev pub shown_on : (m : ℕ) → Machine m → Console
+shown_on m machine = shown_by machine.core machine.regs machine.panel machine.arms machine.hopper machine.keys
+
+-- WHAT A CONSOLE SHOWS of a state whose cards and lines a hopper and a keyboard have read
+abbrev pub console_of : State → Hopper → Keyboard → Console
+console_of s hopper keyboard = shown_by s.core s.regs s.panel s.arms hopper keyboard

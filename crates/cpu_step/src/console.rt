@@ -1,0 +1,81 @@
+// What an operator sees of a machine, and what its units have read.
+ghost use Rattle.std.specs.Prelude.{◌≡◌};
+
+use crate::machine::Machine;
+use branch_ops::Regs;
+use card_unit::CardsRead;
+use disk_1311::DRIVES;
+use indicators::Panel;
+use read_checks::Tally;
+
+// How many cells an instruction has.
+const CELLS: u32 = 12;
+
+/// What the console of a machine shows, and what its card reader and its keyboard have read.
+///
+/// Source: CPU manual, console registers, indicators and switches; the rest is this project's own.
+#[derive(Clone, Copy, Debug, PartialEq, Eq)]
+pub struct Console {
+    /// IR, the address of the instruction that comes next or that stopped the machine, and IR-2.
+    pub regs: Regs,
+    /// The twelve cells that stand at IR, each as a number from 0 to 63, `32C + 16F + V`: none where they don't all lie in core.
+    pub cells: Option<[u8; 12]>,
+    /// The switches and indicators.
+    pub panel: Panel,
+    /// The cylinder where the arm of each disk drive stands.
+    pub arms: [u32; DRIVES],
+    /// How many cards were read.
+    pub cards: CardsRead,
+    /// The bad characters of these.
+    pub bad_cards: Tally,
+    /// How many lines of the keyboard were read.
+    pub lines: u64,
+    /// The bad characters of these.
+    pub bad_keys: Tally,
+}
+
+impl<const M: u32> Machine<M> {
+    ghost use Rattle.cpu_step.specs.Console.{cells_at, shown_on};
+
+    /// What the console shows.
+    ///
+    /// Source: CPU manual, console registers, indicators and switches; the rest is this project's own.
+    pub fn shown(&self) -> Console
+        ensures { result ≡ shown_on M self.now }
+    {
+        Console {
+            regs: self.regs,
+            cells: self.cells_at_ir(),
+            panel: self.panel,
+            arms: self.arms,
+            cards: self.hopper.cards_read(),
+            bad_cards: self.hopper.bad_characters(),
+            lines: self.keys.lines_read(),
+            bad_keys: self.keys.bad_characters(),
+        }
+    }
+
+    // The twelve cells that stand at IR, where they all lie in core.
+    fn cells_at_ir(&self) -> Option<[u8; 12]>
+        ensures { result ≡ cells_at self.now.core self.now.regs.ir }
+    {
+        let ir = self.regs.ir;
+        if self.core.size() - CELLS < ir {
+            return None;
+        }
+        Some([
+            self.core.raw(ir),
+            self.core.raw(ir + 1),
+            self.core.raw(ir + 2),
+            self.core.raw(ir + 3),
+            self.core.raw(ir + 4),
+            self.core.raw(ir + 5),
+            self.core.raw(ir + 6),
+            self.core.raw(ir + 7),
+            self.core.raw(ir + 8),
+            self.core.raw(ir + 9),
+            self.core.raw(ir + 10),
+            self.core.raw(ir + 11),
+        ])
+    }
+}

@@ -1,0 +1,132 @@
+// What was read that no card or key has, and what an operator sees of a machine.
+//
+// - `bad digits|`, `bad pairs|` shows how many of the 256 bytes are bad where they are read so, and the printable ones of these
+// - `tally|` begins a new tally; `digits of|UNIT|N|TEXT`, `pairs of|UNIT|N|TEXT` takes up the bad characters of card or line N of the unit,
+//   `deck`, `data` or `keys`, read so
+// - `read|` shows how many cards and lines the machine has read, and their bad characters
+// - `console|` what its console shows, each of the twelve cells as a number
+use crate::desk::Desk;
+use crate::lines::{RowLine, number};
+use crate::panel::lamps;
+use crate::texts::front;
+use cpu_step::Machine;
+use outside_io::Unit;
+use read_checks::{ReadAs, Tally, is_bad};
+use std::alloc::{AllocError, Global};
+use std::io;
+
+// The unit of a name.
+fn unit_named(name: &str) -> Option<Unit> {
+    match name {
+        "deck" => Some(Unit::Deck),
+        "data" => Some(Unit::Data),
+        "keys" => Some(Unit::Keys),
+        _ => None,
+    }
+}
+
+// Begins a new tally, or takes up characters; None where the line is not known.
+fn take_up<const M: u32>(desk: &mut Desk<M>, line: &RowLine<'_>) -> Option<()> {
+    let how = match line.name {
+        "tally" => {
+            desk.tally = Tally::new();
+            return Some(());
+        }
+        "digits of" => ReadAs::Digit,
+        "pairs of" => ReadAs::Pair,
+        _ => return None,
+    };
+    let unit = unit_named(line.first)?;
+    let (at, text) = line.second.split_once('|')?;
+    let at = u64::from(number(at)?);
+    if text.len() > 80 {
+        return None;
+    }
+    desk.tally.take_up(unit, at, how, text.as_bytes());
+    Some(())
+}
+
+// How many bad characters there were, and the first of them.
+fn tally_text(alloc: Global, tally: &Tally) -> Result<String, AllocError> {
+    let count = tally.count;
+    match tally.first {
+        Some(bad) => {
+            let (unit, line, column) = (bad.unit, bad.line, bad.column);
+            let shown = front(alloc, &[bad.byte], 1)?;
+            format!(in alloc; "{count} first {unit:?} {line} {column} {shown}")
+        }
+        None => format!(in alloc; "{count}"),
+    }
+}
+
+// Prints how many bytes are bad where they are read so, and the printable ones.
+fn show_bad(rt: &impl Print, alloc: Global, name: &str, how: ReadAs) -> io::Result<()> {
+    let mut count: u32 = 0;
+    let mut printable = Vec::new(alloc);
+    for byte in 0u8..=255 {
+        if is_bad(how, byte) {
+            count = count.saturating_add(1);
+            if (b' '..=b'~').contains(&byte) {
+                printable.push(byte)?;
+            }
+        }
+    }
+    let printable = front(alloc, &printable, printable.len())?;
+    println!(rt; "{name}|{count}|{printable}")
+}
+
+// Prints what the units of a machine have read.
+fn show_read<const M: u32>(rt: &impl Print, alloc: Global, machine: &Machine<M>) -> io::Result<()> {
+    let cards = machine.hopper.cards_read();
+    let (deck, behind, lines) = (cards.of_deck, cards.of_data, machine.keys.lines_read());
+    let bad_cards = tally_text(alloc, &machine.hopper.bad_characters())?;
+    let bad_lines = tally_text(alloc, &machine.keys.bad_characters())?;
+    print!(rt; "read|deck {deck} data {behind} keys {lines}")?;
+    println!(rt; "|cards {bad_cards}|keys {bad_lines}")
+}
+
+// Prints what the console of a machine shows.
+fn show_console<const M: u32>(
+    rt: &impl Print,
+    alloc: Global,
+    machine: &Machine<M>,
+) -> io::Result<()> {
+    let console = machine.shown();
+    let (ir, ir2, arms) = (console.regs.ir, console.regs.ir2, console.arms);
+    print!(rt; "console|ir {ir} ir2 {ir2}|")?;
+    match console.cells {
+        Some(cells) => {
+            for cell in cells {
+                print!(rt; " {cell}")?;
+            }
+        }
+        None => print!(rt; " none")?,
+    }
+    print!(rt; "|{}|{arms:?}", lamps(alloc, &console.panel)?)?;
+    let (deck, behind, lines) = (console.cards.of_deck, console.cards.of_data, console.lines);
+    let bad_cards = tally_text(alloc, &console.bad_cards)?;
+    let bad_lines = tally_text(alloc, &console.bad_keys)?;
+    print!(rt; "|deck {deck} data {behind} keys {lines}")?;
+    println!(rt; "|cards {bad_cards}|keys {bad_lines}")
+}
+
+// Prints what was read or is shown; false where the line is not known.
+pub(crate) fn show<const M: u32>(
+    rt: &impl Print,
+    desk: &mut Desk<M>,
+    line: &RowLine<'_>,
+) -> io::Result<bool> {
+    let alloc = desk.alloc;
+    if let Some(()) = take_up(desk, line) {
+        println!(rt; "{}|{}", line.text, tally_text(alloc, &desk.tally)?)?;
+        return Ok(true);
+    }
+    match line.name {
+        "bad digits" => show_bad(rt, alloc, line.name, ReadAs::Digit)?,
+        "bad pairs" => show_bad(rt, alloc, line.name, ReadAs::Pair)?,
+        "read" => show_read(rt, alloc, &desk.machine)?,
+        "console" => show_console(rt, alloc, &desk.machine)?,
+        _ => return Ok(false),
+    }
+    Ok(true)
+}

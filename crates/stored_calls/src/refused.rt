@@ -1,0 +1,37 @@
+// A statement of a source, as one that breaks a rule.
+//
+// - `refused|N|PART` shows statement N of the row's source as refused for `UndefinedSymbol`, by the operand part of that place, from 0; no
+//   PART: by none
+use crate::desk::Desk;
+use crate::lines::{RowLine, number};
+use crate::texts::front;
+use sps_listing::refused_line;
+use sps_ops::Rule;
+use std::io;
+
+// The place of an operand part.
+fn part_of(word: &str) -> Option<u8> {
+    word.parse::<u8>().ok()
+}
+
+// Prints a refused statement; false where the line is not known.
+pub(crate) fn show<const M: u32>(
+    rt: &impl Print,
+    desk: &Desk<M>,
+    line: &RowLine<'_>,
+) -> io::Result<bool> {
+    if line.name != "refused" {
+        return Ok(false);
+    }
+    let Some(statement) = number(line.first) else {
+        return Ok(false);
+    };
+    let rule = Rule::UndefinedSymbol;
+    let refused = refused_line(&desk.source, statement, rule, part_of(line.second));
+    let text = front(desk.alloc, &refused.text, refused.text.len())?;
+    println!(rt;
+        "{}|{} {:?} {:?}|{} bytes|{text}",
+        line.text, refused.statement, refused.rule, refused.part, refused.bytes
+    )?;
+    Ok(true)
+}

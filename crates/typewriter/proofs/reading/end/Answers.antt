@@ -1,0 +1,7 @@
+use Rattle.typewriter.proofs.LinesRead.{none_taken_up}
+use Rattle.typewriter.proofs.reading.end.Goals as goal
+
+pub returns-else-panel-clause-tallied : goal.returns-else-panel-clause-tallied
+returns-else-panel-clause-tallied c =
+    let good = rw c.in-Ok.is at c.requires.good in
+    none_taken_up c.args.keys.now _ (good c.if-panel.false)
