@@ -154,6 +154,31 @@ def lights(checks, console):
     example = console.example("payroll")
     run = console.make("source", example["text"], example["data"])
     checks.want("cards that are left", [console.panel(run, n)["cardsLeft"] for n in (-153, 0, 1, 13)], [40, 2, 1, 0])
+    stops(checks, console)
+
+
+def stops(checks, console):
+    """The lights, and what is left, where no instruction can be carried out: behind a stop, and before one."""
+    def on(run, n):
+        lights = console.panel(run, n)["lights"]
+        return {int(code) for code, on in lights["on"].items() if on}, lights["ir2"], lights["arms"], lights["why"]
+    run = console.make("source", INDICATORS, script=["AT 0 OVERFLOW STOP"])
+    checks.want("the indicators at an overflow stop", (run["end"]["line"], on(run, 3)), ("CHECK 10 00426 STEPS 3", ({9, 11, 14}, 0, [0] * 4, "")))
+    checks.want("and the check switch", console.state(run, 3)["switches"], {"1": False, "2": False, "3": False, "4": False, "overflow": True, "io": False})
+    run = console.make("source", LOOP, script=["AT 4 FLIP 431 0"])
+    checks.want("the indicators where the next instruction has a bad cell, and behind its stop", (on(run, 5), on(run, 6)),
+                (({9, 11}, 0, [0] * 4, ""), ({9, 11, 17}, 0, [0] * 4, "")))
+    run = console.make("source", "     START BTM 403,5\n           DENDSTART\n")
+    checks.want("IR-2 behind a branch and transmit to an odd address, and behind its stop", (run["end"]["line"], on(run, 1)[1], on(run, 2)[1]),
+                ("CHECK 01 00403 STEPS 2", 414, 414))
+    run = console.make("source", "     START B   403\n           DENDSTART\n")
+    checks.want("the indicators before an instruction at an odd address, and behind its stop", [on(run, n) for n in (1, 2)], [({9}, 0, [0] * 4, "")] * 2)
+    run = console.make("source", "     START RNCD19990\n           H\n           DENDSTART\n", "1\n2\n")
+    checks.want("a card whose digits have no place is taken", (run["end"]["kind"], console.panel(run, 1)["cardsLeft"]), ("CHECK", 1))
+    for name, read, fed in (("cardsLeft", "RNCD", {"data": "1\n2\n" + "0" * 81 + "\n3\n"}), ("keysLeft", "RNTY", {"keys": "1\n2\n" + "0" * 81 + "\n3\n"})):
+        run = console.make("source", f"     START {read}500\n           B   START\n           DENDSTART\n", **fed)
+        checks.want(f"{name} before a jam, and at it", [console.panel(run, n)[name] for n in range(6)], [4, 3, 3, ["jam", 2], ["jam", 2], ["jam", 2]])
+        checks.want("and IR at the jam", (run["end"]["kind"], console.state(run, 5)["ir"]), ("JAM", 402))
 
 
 def keys(checks, console):
@@ -181,6 +206,8 @@ def keys(checks, console):
     checks.want("keys at a step are lines with counts", (run["script"], run["acts"]), (["AT 5 SWITCH 3 ON", "AT 9 FLIP 402 0"], [5, 9]))
     checks.want("the switch is turned from there on", [console.state(run, n)["switches"]["3"] for n in (4, 5)], [False, True])
     checks.want("the bad cell is shown, and stops", (console.state(run, 9)["core"][402], run["end"]["line"]), ("?", "CHECK 04 00402 STEPS 10"))
+    many = console.make("source", LOOP, script=["AT 5 FLIP 19000 0"] * 1000)
+    checks.want("a step at which a thousand lines act", [console.state(many, n).get("used") for n in (4, 5)], [0, 1000])
     status, found = act(10, "LOAD")
     checks.want("no key behind a stop", (status, "go back" in found["error"]), (400, True))
     checks.want("a parity stop turns on 16", console.panel(run, 10)["lights"]["on"]["16"], True)

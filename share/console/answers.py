@@ -5,8 +5,8 @@ import os
 import re
 import zipfile
 
-from asking import panel
 from frames import frames
+from panels import panel
 from runs import Inputs
 from signs import Refused, joined, lines_of, script_of, to_bytes, to_text
 from states import place, state, stop_at

@@ -1,9 +1,8 @@
-"""What no command of the program shows of a step is asked of the machine itself: the indicators, IR-2, the arms of the disk drives, and what is left in
-hopper and keyboard.
+"""Where the program does not say the console's line, the machine itself is asked: for the indicators, IR-2, the arms of the disk drives, and what is
+left in hopper and keyboard.
 
 A side run has the run's inputs and its operator's lines up to count n. There FLIP lines turn bits of core until the next instructions are ones
-that test what is asked; what they type, or where they stop, is the answer. The run that is shown has none of it. `panel` is the one place that
-says where lights and counts come from.
+that test what is asked; what they type, or where they stop, is the answer. The run that is shown has none of it.
 """
 
 import collections
@@ -20,14 +19,6 @@ ASK_SIZE = 12 + 36 * len(CODES) + 48 * DRIVES + 12 + FIELD * DRIVES
 ANSWER = re.compile(rb"\t(?: ?\t){%d}" % (len(CODES) + DRIVES))
 
 Standing = collections.namedtuple("Standing", "lines halted ir core typed")      # typed: how many bytes were typed by then
-
-
-async def panel(run, n, is_whole=True):
-    """The lights at count n, and the cards and lines that are left there."""
-    n = await run.clamp(n)
-    asked = [run.store.loop.start(work) for work in (lights(run, n), *((left(run, n, "cards"), left(run, n, "keys")) if is_whole else ()))]
-    found = [await promise for promise in asked]
-    return {"id": run.id, "n": n, "lights": found[0], **({"cardsLeft": found[1], "keysLeft": found[2]} if is_whole else {})}
 
 
 # Where a side run begins
@@ -230,7 +221,7 @@ async def lights_behind_stop(run, n):
 
 async def left(run, n, unit):
     """How many cards, or lines of the keyboard, are left at count n: a number, None where it is not known, or ["jam", number] before a jam."""
-    total = run.cards()[unit == "keys"]
+    total = len(run.fed(unit))
     if not total or any(at <= n for at in run.store.none_left.get((run.base, unit, joined(run.script)), ())):
         return 0
     found = await run.store.once(await key_of(run, "left " + unit, n), lambda: find_left(run, n, unit, total))

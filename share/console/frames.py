@@ -23,16 +23,17 @@ async def frames(run, n, count):
     n, end, acts = await run.clamp(n), await run.end(), await run.acted()
     show = shows(run.core)
     count = max(0, min(count, FRAMES_MOST, end["n"] - n))
-    begin = (await place(run, n)).core
     if not count:
-        return {"id": run.id, "n": n, "core": begin, "frames": []}
+        return {"id": run.id, "n": n, "core": (await place(run, n)).core, "frames": []}
     offset = n + run.offset
     commands = (f"STEP {offset}\n" if offset else "") + show + ("STEP 1\n" + show) * count
     done = await debug(run, commands, run.script, run.inputs.limit + run.offset)
-    # Where the operator has changed core behind a step, core there is looked at by itself: a session shows it as the step has left it.
-    others = {at for at, line in zip(acts, run.script) if at is not None and ("FLIP" in line or "LOAD" in line)}
+    # Where the operator has changed core behind a step, core there is looked at by itself: a session shows it as the step has left it. So it is at the
+    # first place: there a deck has been loaded by a key of the operator.
+    others = {run.first, *(at for at, line in zip(acts, run.script) if at is not None and ("FLIP" in line or "LOAD" in line))}
     reader = Reader(run, done.out, skipped(offset))
-    core, made = begin, []
+    begin = core = (await place(run, n)).core if n in others else reader.cells
+    made = []
     for number in range(1, count + 1):
         found = reader.step()
         if not found or found[1] != offset + number - 1:

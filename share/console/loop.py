@@ -147,11 +147,11 @@ class Loop:
 
     # Child processes
 
-    def call(self, words, folder, seconds, most):
+    def call(self, words, folder, seconds, most, environment):
         """Starts a process, and promises how it ended: its code, the standard output, the first 64 KB of the standard error, and whether it
         was ended here, for it took too long or printed more than so many bytes."""
         child = subprocess.Popen(words, stdin=subprocess.DEVNULL, stdout=subprocess.PIPE, stderr=subprocess.PIPE, cwd=folder, bufsize=0,
-                                 start_new_session=True)
+                                 env=environment, start_new_session=True)
         return Call(self, child, seconds, most).promise
 
 

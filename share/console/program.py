@@ -10,6 +10,7 @@ import tempfile
 
 from loop import Promise
 from signs import Refused, to_text
+from told import ASKING, parted
 
 FILE_MOST = 64_000_000      # bytes that a run may write to one file
 STREAM_MOST = 200_000_000   # bytes that a run may print
@@ -17,7 +18,7 @@ SECONDS_MOST = 30           # of one run that a page asks for
 SECONDS_OF_RECORD = 600     # of one run for a record, which nobody waits for at a page
 CODES_OF_HOST = (7, 8)
 
-Result = collections.namedtuple("Result", "code out said files")
+Result = collections.namedtuple("Result", "code out said told files")
 
 
 def bound_files():
@@ -33,6 +34,8 @@ class Program:
     def __init__(self, loop, path, folder, seconds=SECONDS_MOST):
         self.loop, self.path, self.folder, self.seconds = loop, path, folder, seconds
         self.calls = 0
+        self.environment = {**os.environ, **ASKING}
+        self.tells = False      # whether the last job that has run a machine has said the console's line
         self.free = max(2, os.cpu_count() or 2)
         self.waiting = collections.deque()
 
@@ -77,13 +80,13 @@ class Program:
 
     def begin(self, line, folder):
         try:
-            return self.loop.call(line, folder, self.seconds, STREAM_MOST)
+            return self.loop.call(line, folder, self.seconds, STREAM_MOST, self.environment)
         except OSError as error:
             raise Refused(f"the program {self.path} does not start: {error.strerror}", 503) from None
 
     def result(self, ended, folder, outputs):
         """What a call has come to, or why there is nothing of it."""
-        said = [line[9:] for line in to_text(ended.err).split("\n") if line.startswith("ibm1620: ")]
+        told, said = parted([line[9:] for line in to_text(ended.err).split("\n") if line.startswith("ibm1620: ")])
         # The names of the console's own folders are of no use to the reader.
         said = [re.sub(re.escape(self.folder) + r"/[^\s:,]*", "", line).replace(" : ", ": ") for line in said]
         why = "; ".join(said)
@@ -105,4 +108,4 @@ class Program:
                     files[name] = file.read()
             except OSError:
                 files[name] = b""
-        return Result(ended.code, ended.out, said, files)
+        return Result(ended.code, ended.out, said, told, files)

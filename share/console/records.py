@@ -4,10 +4,11 @@ import json
 import re
 
 from answers import describe
-from asking import CODES, Standing, find_lights, left, lights
+from asking import CODES, Standing, find_lights
 from batches import Point, lights_of, tested_by
 from frames import FRAMES_MOST, frames
 from page import RECORD
+from panels import left, lights
 from signs import Refused, bare, to_bytes
 from states import place, sectors
 
@@ -102,7 +103,7 @@ async def all_lights(run, steps, acts):
     async def ask(n):
         """What no side run of many questions has said is asked for by itself."""
         point = by_count.get(n)
-        if point:
+        if point and not run.program.tells:
             begin = Standing((await run.lines_by(n))[0], False, point.ir, steps.core_at(n), len(steps.typed_by(n)))
             lamps = await find_lights(run, n, begin)
         else:
@@ -146,7 +147,8 @@ async def all_counts(run, steps, acts):
     """How many cards and lines are left and were punched, by the counts from which on it is so: as the instructions say, where that agrees with the
     counts at the end; else each is asked for."""
     async def now(n):
-        return [n, await left(run, n, "cards"), await left(run, n, "keys"), len((await place(run, n)).outputs.punched)]
+        punched = len((await place(run, n)).outputs.punched)
+        return [n, await left(run, n, "cards"), await left(run, n, "keys"), punched]
     loads, end = {at for at, line in acts if line.endswith(" LOAD")}, await run.end()
     wanting = end["n"] if end["kind"].startswith(("NEED", "JAM")) else None
     rows, asked = [await now(steps.first)], []

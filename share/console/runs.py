@@ -76,7 +76,9 @@ class Run:
         if "typed" not in outputs:
             words += ["--typed", "/dev/null"]
         done = await self.program.call("load", inputs, words, [*outputs, "report"])
-        return done, self.ending(done)
+        found = self.ending(done)
+        self.program.tells = done.told is not None
+        return done, found
 
     def ending(self, done):
         """What the last line of a run says: kind, address, count from the Load key on, and what was said besides."""
@@ -95,6 +97,10 @@ class Run:
 
     async def end(self):
         """How the run ends under its whole script, up to the limit."""
+        return (await self.ended())[0]
+
+    async def ended(self):
+        """The same, and the console's line there, or None."""
         return await self.store.once(("end", self.id), self.find_end)
 
     async def find_end(self):
@@ -109,7 +115,7 @@ class Run:
             found["n"] = low + 1 - self.loading
         elif self.kind == "source":     # as `run` counts
             found["line"] = re.sub(r"STEPS \d+$", f"STEPS {found['n']}", found["line"]) if found["n"] >= 0 else found["line"]
-        return found
+        return found, done.told
 
     async def acted(self):
         """For each line of the script the count at which it acts, or None where it never does. A line waits for those before it."""
@@ -161,8 +167,13 @@ class Run:
 
     async def end_under(self, lines, n):
         """How the run stands at count n, under these lines."""
+        return (await self.under(lines, n))[0]
+
+    async def under(self, lines, n):
+        """The same, and the console's line there, or None."""
         async def find():
-            return (await self.load(lines, n))[1]
+            done, found = await self.load(lines, n)
+            return found, done.told
         return await self.store.once(("under", self.base, joined(lines), n), find)
 
     async def lines_by(self, n):
@@ -215,6 +226,6 @@ class Run:
                 found[words[-2].lower()] = words[-1] == "STOP"
         return found
 
-    def cards(self):
-        """How many cards stand in deck and data, and how many lines at the keyboard."""
-        return len(lines_of(self.deck)) + len(lines_of(self.inputs.data)), len(lines_of(self.inputs.keys))
+    def fed(self, unit):
+        """The cards of deck and data, or the lines of the keyboard."""
+        return lines_of(self.deck) + lines_of(self.inputs.data) if unit == "cards" else lines_of(self.inputs.keys)

@@ -1,4 +1,4 @@
-"""The machine at a step of a run: core, IR and outputs, by sessions of the debugger over the run's inputs."""
+"""The machine at a step of a run: core, IR, outputs and the console's line, by sessions of the debugger over the run's inputs."""
 
 import collections
 import re
@@ -7,8 +7,9 @@ from signs import Refused, bare, joined, lines_of, to_text
 
 AT = re.compile(rb"AT (\d{5,}) STEPS (\d+)\n")
 WRITING = ("34", "35", "38", "39")      # the instructions that type, punch or write a sector, if any does
+BACK_MOST = 1000                        # places that a session goes back
 
-Place = collections.namedtuple("Place", "ir core was before outputs")
+Place = collections.namedtuple("Place", "ir core was before outputs told")
 Outputs = collections.namedtuple("Outputs", "typed punched pack")
 
 
@@ -38,18 +39,31 @@ async def debug(run, commands, lines, limit, words=(), outputs=()):
     done = await run.program.call("debug", inputs, ["--limit", limit, "--core", run.core, *words], outputs)
     if done.code != 12:
         raise Refused("the session was refused: " + to_text(done.out[-200:]).strip() + "; ".join(done.said))
-    return done
+    run.program.tells = done.told is not None
+    # Behind a source of one halt the cards of a deck are data cards, and those of the source are none of the run's.
+    return done._replace(told=done.told._replace(deck=0)) if done.told and run.kind == "deck" else done
 
 
 async def place(run, n):
-    """IR, core and outputs at count n, and IR and core one step before, which are None at the first place."""
+    """IR, core, outputs and the console's line at count n, and IR and core one step before, which are None at the first place."""
     lines, here = await run.lines_by(n)
-    end = await run.end()
-    is_last = n >= end["n"] and end["kind"] != "LIMIT"
+    is_last = await is_end(run, n)
 
     async def find():
-        return await find_place(run, n, lines, here, is_last)
-    return await run.store.once(("place", run.base, joined(lines), n, is_last), find, weight)
+        found = await find_told_place(run, n, lines, here, is_last) if run.program.tells else None
+        return found or await find_place(run, n, lines, here, is_last)
+    return await run.store.once(await name_of_place(run, n), find, weight)
+
+
+async def is_end(run, n):
+    """Whether the run ends at count n, but by its limit."""
+    end = await run.end()
+    return n >= end["n"] and end["kind"] != "LIMIT"
+
+
+async def name_of_place(run, n):
+    """The name by which a place is kept: it is the same for each script whose lines have acted alike by then."""
+    return ("place", run.base, joined((await run.lines_by(n))[0]), n, await is_end(run, n))
 
 
 def weight(found):
@@ -57,10 +71,37 @@ def weight(found):
     return 2 * len(found.core) + len(found.outputs.typed) + len(found.outputs.pack) + 100 * len(found.outputs.punched)
 
 
-async def find_place(run, n, lines, here, is_last):
+async def find_told_place(run, n, lines, here, is_last):
+    """The place by a session that ends there, so that the console's line and the outputs are those at count n; None where that line does not come."""
     count = n + run.offset
     show = shows(run.core)
-    commands = "GO\n" + ("" if is_last else "BACK 1\n") + show + (f"BACK {1 + here}\n" + show if n > run.first else "")
+    outputs = ("typed", "punched", "pack")
+    commands = "GO\n" + show + (f"BACK {1 + here}\n" + show + "GO\n" if n > run.first and here < BACK_MOST else "")
+    done = await debug(run, commands, lines, count + is_last, (), outputs)
+    if not done.told:
+        return None
+    line, _, _ = done.out.partition(b"\n")
+    if not is_last and line != b"LIMIT STEPS %d" % count:
+        raise Refused(f"the session came to {to_text(line)} and not to count {count}")
+    core, at = block(run, done.out, len(line) + 1)
+    return Place(done.told.ir, core, *place_before(run, done.out, at, count), outputs_of(done), done.told)
+
+
+def place_before(run, out, at, count):
+    """IR and core one step before a count, where a session shows them from here on."""
+    found = AT.match(out, at)
+    return (int(found[1]), block(run, out, found.end())[0]) if found and int(found[2]) == count - 1 else (None, None)
+
+
+def outputs_of(done):
+    return Outputs(to_text(done.files["typed"]), lines_of(done.files["punched"]), done.files["pack"])
+
+
+async def find_place(run, n, lines, here, is_last):
+    """The place where the program does not say the console's line: IR is that of a line of the session, which makes a step more for it."""
+    count = n + run.offset
+    show = shows(run.core)
+    commands = "GO\n" + ("" if is_last else "BACK 1\n") + show + (f"BACK {1 + here}\n" + show if n > run.first and here < BACK_MOST else "")
     outputs = ("typed", "punched", "pack")
     done = await debug(run, commands, lines, count + 1, (), outputs)
     out = done.out
@@ -73,16 +114,11 @@ async def find_place(run, n, lines, here, is_last):
             raise Refused(f"the session came to {to_text(out[at:at + 40])} and not to count {count}")
         ir, at = int(found[1]), found.end()
     core, at = block(run, out, at)
-    before = was = None
-    found = AT.match(out, at)
-    if found and int(found[2]) == count - 1:
-        was = int(found[1])
-        before, _ = block(run, out, found.end())
+    was, before = place_before(run, out, at, count)
     # The session has made a step more, so its outputs are those at n only where that step writes nothing.
     if not is_last and (ir + 2 > run.core or bare(core[ir:ir + 2]) in WRITING or "?" in core[ir:ir + 2]):
         done, _ = await run.load(lines, n, outputs)
-    files = done.files
-    return Place(ir, core, was, before, Outputs(to_text(files["typed"]), lines_of(files["punched"]), files["pack"]))
+    return Place(ir, core, was, before, outputs_of(done), None)
 
 
 async def next_at_end(run):
@@ -100,7 +136,12 @@ async def state(run, n):
     return {"id": run.id, "n": n, "ir": found.ir, "was": found.was, "core": found.core, "changed": changed, "typed": typed[-20000:],
             "typedLength": len(typed), "punched": punched[-200:], "punchedCount": len(punched), "end": end if n >= end["n"] else None,
             "sectors": sectors(found.outputs.pack, run.inputs.pack or b""), "used": sum(at is not None and at <= n for at in acts),
-            "switches": run.switches(n, acts)}
+            "switches": switches_of(found.told) if found.told else run.switches(n, acts)}
+
+
+def switches_of(told):
+    """How the switches stand by the console's line."""
+    return {**{str(number): number in told.switches for number in (1, 2, 3, 4)}, "overflow": "OVERFLOW" in told.stops, "io": "IO" in told.stops}
 
 
 def differing(old, new, size=500):

@@ -46,6 +46,10 @@ class Store:
             self.keep(key, found, (weight(found) if callable(weight) else weight) + 200)
         return found
 
+    def has(self, key):
+        """Whether something is kept by this name, or about to be."""
+        return key in self.kept or key in self.busy
+
     def keep(self, key, found, size):
         self.kept[key] = (found, size)
         self.size += size
