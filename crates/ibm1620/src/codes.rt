@@ -66,7 +66,8 @@ const ROWS: [Row; 18] = [
         words: &["load", "--deck", "checks", "--report", "said"],
         code: 3,
         said: "ibm1620: check 06: no such operation code, at 00000\n\
-               ibm1620: look at the instruction's first two digits (docs/machine.md)\n",
+               ibm1620: look at the instruction's first two digits (docs/machine.md)\n\
+               ibm1620: CONSOLE IR 00000 CELLS 230000000000 IR2 00000 ON 09 SWITCHES - STOPS - ARMS 000,000,000,000 DECK 1 DATA 0 KEYS 0\n",
     },
     Row {
         words: &[
@@ -74,19 +75,23 @@ const ROWS: [Row; 18] = [
         ],
         code: 4,
         said: "ibm1620: the limit of 1000 steps was reached, and the program would run on\n\
-               ibm1620: --limit N sets a greater one, if the program does not loop\n",
+               ibm1620: --limit N sets a greater one, if the program does not loop\n\
+               ibm1620: bin/trace --deck loops --last 10 shows the last steps\n\
+               ibm1620: CONSOLE IR 00000 CELLS 490000000000 IR2 00000 ON 09 SWITCHES - STOPS - ARMS 000,000,000,000 DECK 1 DATA 0 KEYS 0\n",
     },
     Row {
         words: &["load", "--deck", "reads", "--report", "said"],
         code: 5,
         said: "ibm1620: no card was left to be read, at 00000\n\
-               ibm1620: put more cards behind those of --deck reads, or into --data FILE\n",
+               ibm1620: put more cards behind those of --deck reads, or into --data FILE\n\
+               ibm1620: CONSOLE IR 00000 CELLS 360050000500 IR2 00000 ON 09 SWITCHES - STOPS - ARMS 000,000,000,000 DECK 1 DATA 0 KEYS 0\n",
     },
     Row {
         words: &["load", "--deck", "keys", "--report", "said"],
         code: 6,
         said: "ibm1620: no line of the keyboard was left to be read, at 00000\n\
-               ibm1620: put more lines into --keys FILE\n",
+               ibm1620: put more lines into --keys FILE\n\
+               ibm1620: CONSOLE IR 00000 CELLS 360050000100 IR2 00000 ON 09 SWITCHES - STOPS - ARMS 000,000,000,000 DECK 1 DATA 0 KEYS 0\n",
     },
     Row {
         words: &["load", "--deck", "nowhere", "--report", "said"],
@@ -98,19 +103,22 @@ const ROWS: [Row; 18] = [
         words: &["load", "--deck", ".", "--report", "said"],
         code: 7,
         said: "ibm1620: --deck .: cannot be read: Is a directory (os error 21)\n\
-               ibm1620: see that it is a file that may be read\n",
+               ibm1620: see that it is a file that may be read\n\
+               ibm1620: CONSOLE IR 00000 CELLS 000000000000 IR2 00000 ON - SWITCHES - STOPS - ARMS 000,000,000,000 DECK 0 DATA 0 KEYS 0\n",
     },
     Row {
         words: &["load", "--deck", "halts", "--report", "/dev/full"],
         code: 7,
         said: "ibm1620: --report /dev/full: cannot be written: No space left on device (os error 28)\n\
-               ibm1620: see that there is room and the file may be written\n",
+               ibm1620: see that there is room and the file may be written\n\
+               ibm1620: CONSOLE IR 00012 CELLS 000000000000 IR2 00000 ON 09 SWITCHES - STOPS - ARMS 000,000,000,000 DECK 1 DATA 0 KEYS 0\n",
     },
     Row {
         words: &["load", "--deck", "jams", "--report", "said"],
         code: 9,
         said: "ibm1620: --deck jams: line 1 is over 80 bytes\n\
-               ibm1620: cut it: a card, or a line of the keyboard, has no more than 80\n",
+               ibm1620: cut it: a card, or a line of the keyboard, has no more than 80\n\
+               ibm1620: CONSOLE IR 00000 CELLS 000000000000 IR2 00000 ON - SWITCHES - STOPS - ARMS 000,000,000,000 DECK 0 DATA 0 KEYS 0\n",
     },
     Row {
         words: &[
@@ -216,14 +224,11 @@ fn ends(rt: &HostRuntime, texts: &[&str], code: u8, said: &str) -> bool {
     }
 }
 
-// Whether the words are told to be no command, with the commands behind that.
+// Whether the words are told to have the name of a file where an option is wanted.
 fn is_refused(rt: &HostRuntime, texts: &[&str]) -> bool {
     match done(rt, texts) {
         Some((code, errors)) => {
-            code == 2
-                && errors.starts_with(
-                    b"ibm1620: the words are no command with its options; these are:\n",
-                )
+            code == 2 && errors.starts_with(b"ibm1620: cards stands where an option is wanted\n")
         }
         None => false,
     }

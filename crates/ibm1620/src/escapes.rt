@@ -1,5 +1,5 @@
 // Texts that others wrote, as they are shown: no control character of theirs gets to a terminal.
-use std::fmt;
+use std::{fmt, str};
 
 // A name of a file: its control characters as `\x1b`, all else as it is.
 #[derive(Clone, Copy)]
@@ -58,4 +58,24 @@ impl fmt::Display for Cells<'_> {
         }
         Ok(())
     }
+}
+
+// The character of several bytes with which a text begins, where it is one in UTF-8 that may be shown.
+pub(crate) fn character_at(text: &[u8]) -> Option<char> {
+    for length in 2..5usize {
+        if let Some(character) = character_of(text, length) {
+            return Some(character);
+        }
+    }
+    None
+}
+
+// The same of so many bytes.
+fn character_of(text: &[u8], length: usize) -> Option<char> {
+    let (bytes, _) = text.split_at_checked(length)?;
+    let character = str::from_utf8(bytes).ok()?.chars().next()?;
+    if character.is_ascii() || character.is_control() {
+        return None;
+    }
+    Some(character)
 }

@@ -1,11 +1,12 @@
 // A job over files: its status, what is said of it, and the code.
 use crate::fresh::Fresh;
 use crate::messages::Message;
+use crate::mistaken::Mistaken;
 use crate::refused::Refused;
 use crate::reread::source_again;
-use crate::sizes::asked_core;
 use crate::start::{NoStart, room_for};
-use ibm1620_cli::{Status, ibm1620};
+use crate::told::Told;
+use ibm1620_cli::{Answer, Status, ibm1620_answer};
 use outside_io::{PackRoom, RealHost, Sent};
 use std::alloc::Global;
 use std::io::Write;
@@ -20,7 +21,8 @@ pub(crate) fn do_job<W: Write>(
     Ok(code_of_job(rt, words, room, errors))
 }
 
-// The same with this room for a blank pack. A job that ends with code 0 says nothing on `errors`.
+// The same with this room for a blank pack. A job that ends with code 0 says nothing on `errors`, but of bad characters, and of the console
+// where that is asked for.
 fn code_of_job<W: Write>(
     rt: &HostRuntime,
     words: &[String],
@@ -29,16 +31,21 @@ fn code_of_job<W: Write>(
 ) -> u8 {
     let fresh = Fresh::before(rt, words);
     let mut host = RealHost::with_pack_room(rt, room);
-    let status = ibm1620(rt.alloc(), words, &mut host);
-    let status = finished(&mut host, status);
+    let answer = ibm1620_answer(rt.alloc(), words, &mut host);
+    let status = finished(&mut host, answer.status);
     let code = status.code();
+    let told = Told::of(rt, status, &answer.console);
     if code != 0 {
         fresh.remove_empty(rt, words);
+    }
+    if code != 0 || !told.is_nothing() {
         let source = source_if_refused(rt, words, status);
         let message = Message {
             status,
             trouble: host.trouble(),
-            refused: refused_in(rt.alloc(), words, status, &source),
+            refused: refused_in(rt.alloc(), &answer, &source),
+            mistaken: Mistaken::find(rt, words, status, &source),
+            told,
             words,
             alloc: rt.alloc(),
         };
@@ -66,20 +73,21 @@ fn source_if_refused(rt: &HostRuntime, words: &[String], status: Status) -> Opti
     }
 }
 
-// The refused statement in that source.
+// The refused statement, with that source where it still has it.
 fn refused_in<'s>(
     alloc: Global,
-    words: &[String],
-    status: Status,
+    answer: &'s Answer,
     source: &'s Option<Vec<u8>>,
 ) -> Option<Refused<'s>> {
-    match (status, source) {
-        (Status::Refused { statement, rule }, Some(source)) => {
-            let core = asked_core(alloc, words);
-            Refused::find(alloc, source.as_slice(), core, statement, rule)
-        }
-        _ => None,
-    }
+    let line = match &answer.refusal {
+        Some(line) => line,
+        None => return None,
+    };
+    let source = match source {
+        Some(source) => source.as_slice(),
+        None => &[],
+    };
+    Refused::of(alloc, line, source)
 }
 
 // Says the message in one write, so that its lines stay together; in many where there is no memory for that.

@@ -14,6 +14,7 @@ pub(crate) struct BrokenLabel<'s> {
     pub(crate) name: &'s [u8],
     pub(crate) statement: u32,
     pub(crate) rule: Rule,
+    pub(crate) line: &'s [u8],
 }
 
 // A statement of a source, where it stands.
@@ -47,6 +48,7 @@ impl<'s> Standing<'s> {
             name,
             statement: self.number,
             rule,
+            line: self.line,
         })
     }
 }
@@ -122,4 +124,19 @@ fn lacks_symbol(part: &[u8], head: Option<u8>, symbols: &Symbols) -> bool {
         value(part, head, symbols, 0, None),
         Err(Rule::UndefinedSymbol)
     )
+}
+
+// The number of the statement whose label stands for the same symbol as that of the statement with this number, and comes first.
+pub(crate) fn first_statement(alloc: Global, source: &[u8], number: u32) -> Option<u32> {
+    let symbols = locate(alloc, source).ok()?.symbols;
+    let mut statements = Statements::new(source);
+    for _ in 0..MOST_STATEMENTS + 1 {
+        let standing = statements.take()?;
+        if standing.number == number {
+            let name = trimmed(LABEL.of(standing.line));
+            let (_, first) = symbols.find_under(standing.head, name)?;
+            return Some(first);
+        }
+    }
+    None
 }

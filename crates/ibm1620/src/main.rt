@@ -4,19 +4,27 @@
 //! output as its host, the code that the program ends with, and what a failure says on the standard error.
 #![tactic(auto)]
 
+mod advice;
 mod checks;
 #[cfg(test)]
 mod codes;
+mod commands;
+mod console;
 mod escapes;
 mod faults;
 mod fresh;
 mod hints;
 mod job;
 mod labels;
+mod languages;
 mod marks;
 mod messages;
+mod mistaken;
+mod misuse;
 mod names;
+mod operands;
 mod picture;
+mod places;
 #[cfg(test)]
 mod refusals;
 mod refused;
@@ -29,6 +37,7 @@ mod standard;
 mod start;
 #[cfg(test)]
 mod tests;
+mod told;
 mod usage;
 
 use crate::job::do_job;

@@ -1,12 +1,15 @@
 // What a job says on the standard error, by how it ended.
 use crate::checks::{Meaning, look_at};
+use crate::escapes::Escaped;
 use crate::faults::Fault;
+use crate::mistaken::{Confusion, Mistaken};
+use crate::misuse::Misuse;
 use crate::names::{Named, SOME_FILE};
 use crate::refused::Refused;
 use crate::rules::Breach;
 use crate::sizes::asked_core;
 use crate::start::NO_MEMORY;
-use crate::usage::USAGE;
+use crate::told::{BadCharacters, Told};
 use addr_indirect::Stop;
 use command_line::{CoreSize, named_file};
 use ibm1620_cli::Status;
@@ -15,8 +18,8 @@ use sps_ops::Rule;
 use std::alloc::Global;
 use std::fmt;
 
-// The message of a status: what happened, and what to do next. It is empty where the machine halted, the
-// source was assembled or made, or the session ended.
+// The message of a job: what happened, what to do next, and what is told of its machine. It is empty where the machine halted, the source was
+// assembled or made, or the session ended, and nothing is told.
 #[derive(Clone, Copy)]
 pub(crate) struct Message<'t, 'w> {
     pub(crate) status: Status,
@@ -24,6 +27,10 @@ pub(crate) struct Message<'t, 'w> {
     pub(crate) trouble: Option<&'t Trouble>,
     // The refused statement in its source, where that can be shown.
     pub(crate) refused: Option<Refused<'t>>,
+    // What the job's source or deck looks like, where it does not look like one.
+    pub(crate) mistaken: Option<Mistaken>,
+    // What is told of the job's machine.
+    pub(crate) told: Told<'t>,
     // The words of the command line, and the memory that they are read by.
     pub(crate) words: &'w [String],
     pub(crate) alloc: Global,
@@ -31,6 +38,19 @@ pub(crate) struct Message<'t, 'w> {
 
 impl fmt::Display for Message<'_, '_> {
     fn fmt<W: fmt::Write>(&self, f: &mut fmt::Formatter<W>) -> fmt::Result {
+        self.write_status(f)?;
+        self.write_mistaken(f)?;
+        self.write_bad_characters(f)?;
+        match self.told.console() {
+            Some(line) => write!(f, "{line}"),
+            None => Ok(()),
+        }
+    }
+}
+
+impl<'w> Message<'_, 'w> {
+    // What happened, and what to do next.
+    fn write_status<W: fmt::Write>(&self, f: &mut fmt::Formatter<W>) -> fmt::Result {
         match self.status {
             Status::Halted { .. }
             | Status::Assembled { .. }
@@ -38,9 +58,9 @@ impl fmt::Display for Message<'_, '_> {
             | Status::Placed { .. }
             | Status::SessionEnded => Ok(()),
             Status::Refused { statement, rule } => self.write_refused(f, statement, rule),
-            Status::Usage => f.write_str(USAGE),
+            Status::Usage => self.write_misuse(f),
             Status::CheckStop { kind, at, .. } => self.write_check(f, kind, at),
-            Status::Limit { steps } => write_limit(f, steps),
+            Status::Limit { steps } => self.write_limit(f, steps),
             Status::NeedCards { at, .. } => self.write_need_cards(f, at),
             Status::NeedKeys { at, .. } => self.write_need_keys(f, at),
             Status::HostFault => self.write_fault(f),
@@ -51,9 +71,39 @@ impl fmt::Display for Message<'_, '_> {
             Status::BadCommand { line } => self.write_bad_command(f, line),
         }
     }
-}
 
-impl<'w> Message<'_, 'w> {
+    // Which word of the command line does not fit.
+    fn write_misuse<W: fmt::Write>(&self, f: &mut fmt::Formatter<W>) -> fmt::Result {
+        let misuse = Misuse::find(self.words);
+        write!(f, "{misuse}")
+    }
+
+    // The bad characters that were read of cards and of the keyboard.
+    fn write_bad_characters<W: fmt::Write>(&self, f: &mut fmt::Formatter<W>) -> fmt::Result {
+        for tally in self.told.tallies() {
+            let Some(first) = tally.first else {
+                continue;
+            };
+            let bad = BadCharacters {
+                first,
+                named: self.named(first.unit),
+                count: tally.count,
+            };
+            write!(f, "{bad}")?;
+        }
+        Ok(())
+    }
+
+    // What a source or a deck looks like that is none.
+    fn write_mistaken<W: fmt::Write>(&self, f: &mut fmt::Formatter<W>) -> fmt::Result {
+        let Some(mistaken) = self.mistaken else {
+            return Ok(());
+        };
+        let given = self.named(mistaken.given_as());
+        let confusion = Confusion { mistaken, given };
+        write!(f, "{confusion}")
+    }
+
     // A unit with the file that the words name for it; with none, where there is no memory to read them.
     fn named(&self, unit: Unit) -> Named<'w> {
         let file = named_file(self.alloc, self.words, unit).unwrap_or(None);
@@ -103,6 +153,31 @@ impl<'w> Message<'_, 'w> {
                 "ibm1620: where the address lies in a larger core, give --core 60000\n",
             ),
             _ => Ok(()),
+        }
+    }
+
+    fn write_limit<W: fmt::Write>(&self, f: &mut fmt::Formatter<W>, steps: u64) -> fmt::Result {
+        write!(
+            f,
+            "ibm1620: the limit of {steps} steps was reached, and the program would run on\n\
+             ibm1620: --limit N sets a greater one, if the program does not loop\n"
+        )?;
+        let deck = self.named(Unit::Deck);
+        match (deck.file, self.named(Unit::Source).file) {
+            (Some(_), _) => {
+                write!(
+                    f,
+                    "ibm1620: bin/trace {deck} --last 10 shows the last steps\n"
+                )
+            }
+            (None, Some(source)) => {
+                let source = Escaped(source);
+                write!(
+                    f,
+                    "ibm1620: bin/trace {source} --last 10 shows the last steps\n"
+                )
+            }
+            (None, None) => Ok(()),
         }
     }
 
@@ -185,14 +260,6 @@ impl<'w> Message<'_, 'w> {
              ibm1620: shorten it: it may have {most} bytes\n"
         )
     }
-}
-
-fn write_limit<W: fmt::Write>(f: &mut fmt::Formatter<W>, steps: u64) -> fmt::Result {
-    write!(
-        f,
-        "ibm1620: the limit of {steps} steps was reached, and the program would run on\n\
-         ibm1620: --limit N sets a greater one, if the program does not loop\n"
-    )
 }
 
 // How many bytes a script, commands, or else a source, may have.

@@ -1,7 +1,9 @@
 // What is shown of refused statements. The columns are counted by hand.
 use crate::refused::Refused;
-use command_line::CoreSize;
+use digit_core::MODULE;
+use sps_listing::refused_line;
 use sps_ops::Rule;
+use sps_pass_two::{AsmFault, assemble};
 use std::alloc::Global;
 
 // A source, the statement that it is refused for, its rule, the ruler, and what stands below that. Without a ruler nothing is shown.
@@ -26,14 +28,19 @@ ibm1620: 1....6.....12..16......................................................
 
 // Whether the program shows this and no more of the row's statement.
 fn is_shown(alloc: Global, row: &Row) -> bool {
-    let told = Refused::find(
-        alloc,
-        row.source,
-        CoreSize::OneModule,
-        row.statement,
-        row.rule,
-    );
-    let Some(told) = told else {
+    let refused = match assemble(alloc, row.source, MODULE) {
+        Err(
+            AsmFault::Broken {
+                statement,
+                rule,
+                part,
+            },
+        ) if statement == row.statement && rule == row.rule => {
+            refused_line(row.source, statement, rule, part)
+        }
+        _ => return row.ruler.is_empty(),
+    };
+    let Some(told) = Refused::of(alloc, &refused, row.source) else {
         return row.ruler.is_empty();
     };
     let ruler = row.ruler;
@@ -252,7 +259,8 @@ const OTHERS: [Row; 15] = [
         rule: Rule::DuplicateLabel,
         ruler: SHORT,
         shown: "ibm1620:       A    DC  5,0\n\
-                ibm1620:       ^\n",
+                ibm1620:       ^\n\
+                ibm1620: it is the label of statement 1 already\n",
     },
     // A name is the label of a statement that breaks rule 1, under the same head.
     Row {
@@ -265,7 +273,12 @@ const OTHERS: [Row; 15] = [
         ruler: SHORT,
         shown: "ibm1620:            B   1+A\n\
                 ibm1620:                ^^^\n\
-                ibm1620: A is the label of statement 3, which breaks rule 01 itself\n",
+                ibm1620: A is the label of statement 3, which breaks rule 01 itself\n\
+                ibm1620: page label op  operands\n\
+                ibm1620: 1....6.....12..16......\n\
+                ibm1620:      A     DC  5,'5'\n\
+                ibm1620:                  ^\n\
+                ibm1620: a byte ' in column 18: write blanks, A to Z, 0 to 9 or . ) + $ * - / , ( = @\n",
     },
     // Two such names: the one that is told last makes the part whole.
     Row {
@@ -279,7 +292,12 @@ const OTHERS: [Row; 15] = [
         ruler: SHORT,
         shown: "ibm1620:            TF  A+B,C\n\
                 ibm1620:                ^^^\n\
-                ibm1620: A is the label of statement 4, which breaks rule 01 itself\n",
+                ibm1620: A is the label of statement 4, which breaks rule 01 itself\n\
+                ibm1620: page label op  operands\n\
+                ibm1620: 1....6.....12..16......\n\
+                ibm1620:      A     DC  5,'5'\n\
+                ibm1620:                  ^\n\
+                ibm1620: a byte ' in column 18: write blanks, A to Z, 0 to 9 or . ) + $ * - / , ( = @\n",
     },
     // Of a statement that breaks rule 2.
     Row {
@@ -291,7 +309,12 @@ const OTHERS: [Row; 15] = [
         ruler: SHORT,
         shown: "ibm1620:            B   A\n\
                 ibm1620:                ^\n\
-                ibm1620: A is the label of statement 2, which breaks rule 02 itself\n",
+                ibm1620: A is the label of statement 2, which breaks rule 02 itself\n\
+                ibm1620: page label op  operands                                                    ident\n\
+                ibm1620: 1....6.....12..16..........................................................76...\n\
+                ibm1620:      A     H                                                               ABCDEF\n\
+                ibm1620:                                                                                 ^\n\
+                ibm1620: the line has 81 bytes\n",
     },
     // Under another head it is another symbol.
     Row {

@@ -1,15 +1,10 @@
 // The statement that a source is refused for, as it stands there.
-use crate::hints::{Hint, hint_by_place, hint_by_rule};
-use crate::labels::lacked_label;
+use crate::advice::{Broken, hints_on};
+use crate::hints::Hint;
 use crate::marks::marked;
 use crate::picture::Picture;
-use crate::sizes::positions;
-use command_line::CoreSize;
+use ibm1620_cli::RefusedLine;
 use outside_io::split_line;
-use sps_ops::Rule;
-use sps_pass_one::part_at;
-use sps_pass_two::{AsmFault, assemble};
-use sps_scan::scan;
 use std::alloc::Global;
 use std::fmt;
 
@@ -17,7 +12,7 @@ use std::fmt;
 #[derive(Clone, Copy)]
 pub(crate) struct Refused<'s> {
     picture: Picture<'s>,
-    hints: [Option<Hint<'s>>; 3],
+    hints: [Option<Hint<'s>>; 4],
 }
 
 impl fmt::Display for Refused<'_> {
@@ -34,45 +29,40 @@ impl fmt::Display for Refused<'_> {
 }
 
 impl<'s> Refused<'s> {
-    // The statement of this number in a source that is refused for it by this rule. There is none where the source is refused otherwise or
-    // not at all, as when it was changed meanwhile, where it has no such statement, and where memory is lacking.
-    pub(crate) fn find(
-        alloc: Global,
-        source: &'s [u8],
-        core: CoreSize,
-        statement: u32,
-        rule: Rule,
-    ) -> Option<Self> {
-        let part = part_if(alloc, source, core, statement, rule)?;
-        let line = line_at(source, statement)?;
+    // The refused statement, with its source. Where the source has it no more, as when it was changed meanwhile or can't be had, there is no
+    // hint from other statements, and of a line over 80 bytes the first ones are shown. There is nothing to be shown of a line without a
+    // byte, as of the end that a source lacks.
+    pub(crate) fn of(alloc: Global, refused: &'s RefusedLine, source: &'s [u8]) -> Option<Self> {
+        if refused.bytes == 0 {
+            return None;
+        }
+        let rule = refused.rule;
+        let part = refused.part;
+        let (line, source) = match same_line(source, refused) {
+            Some(line) => (line, source),
+            None => (refused.text.as_slice(), &source[..0]),
+        };
+        let broken = Broken {
+            line,
+            bytes: refused.bytes,
+            statement: refused.statement,
+            rule,
+            part,
+        };
         Some(Refused {
             picture: Picture::new(line, marked(rule, part, line)),
-            hints: [
-                hint_by_place(rule, line),
-                hint_by_rule(rule, line),
-                hint_by_label(alloc, source, line, statement, rule, part),
-            ],
+            hints: hints_on(alloc, source, broken),
         })
     }
 }
 
-// The part that is told of a refusal, which may be none; none at all where the source is not refused so.
-fn part_if(
-    alloc: Global,
-    source: &[u8],
-    core: CoreSize,
-    statement: u32,
-    rule: Rule,
-) -> Option<Option<u8>> {
-    match assemble(alloc, source, positions(core)) {
-        Err(
-            AsmFault::Broken {
-                statement: broken,
-                rule: least,
-                part,
-            },
-        ) if broken == statement && least == rule => Some(part),
-        _ => None,
+// The line of the refused statement in a source that has it still.
+fn same_line<'s>(source: &'s [u8], refused: &RefusedLine) -> Option<&'s [u8]> {
+    let line = line_at(source, refused.statement)?;
+    if line.len() == refused.bytes && line.starts_with(refused.text.as_slice()) {
+        Some(line)
+    } else {
+        None
     }
 }
 
@@ -85,21 +75,4 @@ fn line_at(source: &[u8], statement: u32) -> Option<&[u8]> {
     }
     let (line, _) = split_line(rest)?;
     Some(line)
-}
-
-// The hint on a part with a name that is the label of a statement which breaks a rule itself.
-fn hint_by_label<'s>(
-    alloc: Global,
-    source: &'s [u8],
-    line: &[u8],
-    statement: u32,
-    rule: Rule,
-    part: Option<u8>,
-) -> Option<Hint<'s>> {
-    if rule != Rule::UndefinedSymbol {
-        return None;
-    }
-    let s = scan(line);
-    let label = lacked_label(alloc, source, statement, part_at(&s, part?))?;
-    Some(Hint::Broken(label))
 }

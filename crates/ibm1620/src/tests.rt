@@ -3,6 +3,7 @@ use crate::messages::Message;
 use crate::names::FileOption;
 use crate::standard::hold_standard;
 use crate::start::{NoStart, words_of};
+use crate::told::Told;
 use addr_indirect::Stop;
 use command_line::named_file;
 use ibm1620_cli::Status;
@@ -32,6 +33,8 @@ fn said(
         status,
         trouble,
         refused: None,
+        told: Told::nothing(),
+        mistaken: None,
         words: &words,
         alloc,
     };
@@ -193,7 +196,8 @@ const STATUSES: [(Status, &[&str], &str); 22] = [
         Status::Limit { steps: 1000 },
         LOAD,
         "ibm1620: the limit of 1000 steps was reached, and the program would run on\n\
-         ibm1620: --limit N sets a greater one, if the program does not loop\n",
+         ibm1620: --limit N sets a greater one, if the program does not loop\n\
+         ibm1620: bin/trace --deck cards.txt --last 10 shows the last steps\n",
     ),
     (
         Status::NeedCards { at: 12, steps: 2 },

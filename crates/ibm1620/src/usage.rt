@@ -1,75 +1,87 @@
-// What is said where the words are not plain.
+// The commands with their options, as they are shown where the words are not plain.
+use crate::commands::{COMMANDS, Setting, others, purpose, required, word_of};
+use command_line::Command;
+use std::fmt;
 
-// The commands, each with its options and what they are.
-pub(crate) const USAGE: &str = "\
-ibm1620: the words are no command with its options; these are:
+// How wide an option and its value are shown: the widest ones are `--statements N` and `--commands FILE`.
+const WIDE: usize = 16;
 
-ibm1620 assemble --source FILE [OPTION VALUE]..
-  Assembles a source.
-    --source FILE   the source (required)
-    --object FILE   gets the object deck; without it the deck is dropped
-    --image FILE    gets the image; without it the image is dropped
-    --listing FILE  gets the listing; without it the listing is dropped
-    --form FORM     the form of the object deck, self or dense; self without it
-    --core N        core's positions: 20000, 40000 or 60000; 20000 without it
-    --report FILE   gets the report line
-
-ibm1620 load --deck FILE [OPTION VALUE]..
-  Loads a deck by the Load key and runs the machine.
-    --deck FILE     the cards of the deck (required)
-    --data FILE     the cards behind the deck
-    --keys FILE     the lines of the keyboard
-    --script FILE   the operator's script; without it the operator does nothing
-    --pack FILE     the disk's pack, read and written; made if it is not there
-    --limit N       the greatest number of steps; 1000000 without it
-    --core N        the positions of core, as for assemble
-    --punched FILE  gets the punched cards; without it they are dropped
-    --typed FILE    gets what the machine types
-    --report FILE   gets the report line
-
-ibm1620 run --source FILE [OPTION VALUE]..
-  Assembles a source, loads its object deck and runs the program.
-    --source FILE   the source (required)
-    --object FILE   gets the object deck
-    --image FILE    gets the image
-    --listing FILE  gets the listing
-    --form FORM     the form of the object deck, as for assemble
-    --core N        the positions of core, as for assemble
-    --data FILE     the cards behind the object deck
-    --limit N       the greatest number of steps of the program
-    --keys FILE, --script FILE, --pack FILE, --punched FILE, --typed FILE,
-    --report FILE   as for load
-
-ibm1620 debug --source FILE --commands FILE [OPTION VALUE]..
-  Assembles a source, presses the Load key over its object deck, and carries
-  out the debugger's commands: GO, STEP n, BACK n, BREAK s, CLEAR s, SHOW a n,
-  QUIT.
-    --source FILE   the source (required)
-    --commands FILE the debugger's commands, one on a line (required)
-    --limit N       the greatest number of steps, those of the deck included
-    and all other options of run; the report gets what the commands print
-
-ibm1620 generate --statements N --number K [OPTION VALUE]..
-  Makes a source for trials: the same one for the same numbers.
-    --statements N  how many statements, 8 to 1600 (required)
-    --number K      what it is made by, 0 to 999999 (required)
-    --made FILE     gets the source; without it the source is dropped
-    --report FILE   gets the report line
-
-ibm1620 trial --statements N --number K [--report FILE]
-  Makes such a source, assembles it, loads its object deck and runs it.
-
-ibm1620 disk --source FILE --pack FILE [OPTION VALUE]..
-  Assembles a source, writes its image to the pack, and punches the deck that
-  loads it from there: load --deck DECK --pack FILE runs it.
-    --source FILE   the source (required)
-    --pack FILE     the pack, gets the sectors; made if not there (required)
-    --object FILE   gets the bootstrap deck; without it the deck is dropped
-    --image FILE    gets the image; without it the image is dropped
-    --core N        the positions of core, as for assemble
-    --report FILE   gets the report line
-
+// What holds for the options of each command.
+const OPTIONS: &str = "
 Options come in any order, each at most once. A FILE is not empty and does not
 begin with '-'. Numbers have 1 to 15 digits. What is typed and reported
 goes to the standard output where no file is named for it.
 ";
+
+// One command with its options.
+#[derive(Clone, Copy)]
+pub(crate) struct CommandUsage(pub(crate) Command);
+
+impl fmt::Display for CommandUsage {
+    fn fmt<W: fmt::Write>(&self, f: &mut fmt::Formatter<W>) -> fmt::Result {
+        self.write_head(f)?;
+        f.write_str(purpose(self.0))?;
+        for setting in required(self.0) {
+            write_setting(f, setting, " (required)\n")?;
+        }
+        for setting in others(self.0) {
+            write_setting(f, setting, "\n")?;
+        }
+        Ok(())
+    }
+}
+
+impl CommandUsage {
+    // The command with what it has to be given.
+    fn write_head<W: fmt::Write>(&self, f: &mut fmt::Formatter<W>) -> fmt::Result {
+        let command = word_of(self.0);
+        write!(f, "\nibm1620 {command}")?;
+        for setting in required(self.0) {
+            let word = setting.word;
+            let value = setting.value;
+            write!(f, " --{word} {value}")?;
+        }
+        f.write_str(" [OPTION VALUE]..\n")
+    }
+}
+
+// An option on a line of its own.
+fn write_setting<W: fmt::Write>(
+    f: &mut fmt::Formatter<W>,
+    setting: &Setting,
+    end: &str,
+) -> fmt::Result {
+    let word = setting.word;
+    let value = setting.value;
+    let about = setting.about;
+    let written = word.len().saturating_add(value.len()).saturating_add(3);
+    write!(f, "    --{word} {value}")?;
+    f.write_repeated(" ", WIDE.saturating_sub(written))?;
+    write!(f, "{about}{end}")
+}
+
+// The usage of a command, or of all where there is none.
+#[derive(Clone, Copy)]
+pub(crate) struct Usage(pub(crate) Option<Command>);
+
+impl fmt::Display for Usage {
+    fn fmt<W: fmt::Write>(&self, f: &mut fmt::Formatter<W>) -> fmt::Result {
+        match self.0 {
+            Some(command) => write_command(f, command)?,
+            None => write_commands(f)?,
+        }
+        f.write_str(OPTIONS)
+    }
+}
+
+fn write_command<W: fmt::Write>(f: &mut fmt::Formatter<W>, command: Command) -> fmt::Result {
+    let usage = CommandUsage(command);
+    write!(f, "{usage}")
+}
+
+fn write_commands<W: fmt::Write>(f: &mut fmt::Formatter<W>) -> fmt::Result {
+    for (_, command) in COMMANDS {
+        write_command(f, command)?;
+    }
+    Ok(())
+}
