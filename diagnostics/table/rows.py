@@ -1,4 +1,4 @@
-"""The rows of crates/stored_jobs that run the decks and the single cards: what each is given, and what has to come of it.
+"""The rows of crates/job_rows that run the decks and the single cards: what each is given, and what has to come of it.
 
 Each deck is assembled in each form, by a row, and loaded and run by the next one. What has to come is the table's, and of steps and sectors what the
 independent machine makes of the deck.

@@ -1,6 +1,6 @@
 use Rattle.std.proofs.Common.{arith}
-use Rattle.part_rows.proofs.StillFree.{still_free}
-use Rattle.part_rows.proofs.hosts.real_files.second_binding.Goals as goal
+use Rattle.part_tests.proofs.StillFree.{still_free}
+use Rattle.part_tests.proofs.hosts.real_files.second_binding.Goals as goal
 
 -- the first binding leaves the second unit free
 pub bind-requires-2 : goal.bind-requires-2

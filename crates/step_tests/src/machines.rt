@@ -4,11 +4,11 @@
 
 ghost use Rattle.std.specs.Prelude.{◌≡◌};
 ghost use Rattle.digit_core.specs.Size.{IsSize};
-ghost use Rattle.step_rows.specs.declared.machines.MachineFault.TheVariants.{Memory, Text};
+ghost use Rattle.step_tests.specs.declared.machines.MachineFault.TheVariants.{Memory, Text};
 
 use card_unit::Hopper;
 use core_texts::{TextFault, bound, write};
-use cpu_step::{Machine, Mode, Turned};
+use cpu_step::{Machine, Mode};
 use outside_io::{Host, MemHost, Unit};
 use std::alloc::{AllocError, Global};
 
@@ -62,19 +62,4 @@ pub(crate) fn machine<const M: u32>(alloc: Global, text: &[u8]) -> Result<Machin
     write(&mut machine.core, 0, text)?;
     machine.mode = Mode::Running;
     Ok(machine)
-}
-
-// Up to this many steps, as long as the machine runs: how the last one ended, `On` where there was none.
-pub(crate) fn run<const M: u32>(
-    machine: &mut Machine<M>,
-    host: &mut MemHost,
-    steps: u32,
-) -> Turned {
-    let mut last = Turned::On;
-    for _ in 0..steps {
-        if machine.is_running() {
-            last = machine.step(host);
-        }
-    }
-    last
 }

@@ -2,7 +2,7 @@ use Rattle.std.proofs.Common.{◌∙◌, ap, map, arith}
 use Rattle.deck_punch.specs.declared.form.DeckForm.TheVariants.{SelfLoading}
 use Rattle.deck_punch.specs.Types.{segment_run}
 use Rattle.deck_punch.proofs.Pieces.{segment_placed}
-use Rattle.deck_rows.proofs.segments.cards_of.Goals as goal
+use Rattle.deck_tests.proofs.segments.cards_of.Goals as goal
 
 pub card_of-requires-clause-below : goal.card_of-requires-clause-below
 card_of-requires-clause-below c =

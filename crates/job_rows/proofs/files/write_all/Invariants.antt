@@ -1,7 +1,7 @@
 -- The host is fresh all the while: sectors are no texts, and no unit is bound.
 use Rattle.outside_io.specs.World.{IsFresh}
 use Rattle.outside_io.specs.Mem.{mem_world}
-use Rattle.stored_jobs.proofs.files.write_all.Given as goal
+use Rattle.job_rows.proofs.files.write_all.Given as goal
 
 abbrev pub invariant-loop-a : goal.invariant-loop-a
 invariant-loop-a l = IsFresh (mem_world l.host)

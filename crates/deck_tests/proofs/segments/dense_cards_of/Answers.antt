@@ -2,7 +2,7 @@ use Rattle.std.proofs.Common.{◌∙◌, ap, map, arith}
 use Rattle.deck_punch.specs.declared.form.DeckForm.TheVariants.{Dense}
 use Rattle.deck_punch.specs.Types.{segment_run}
 use Rattle.deck_punch.proofs.Pieces.{segment_placed}
-use Rattle.deck_rows.proofs.segments.dense_cards_of.Goals as goal
+use Rattle.deck_tests.proofs.segments.dense_cards_of.Goals as goal
 
 pub dense_card_of-requires-clause-below : goal.dense_card_of-requires-clause-below
 dense_card_of-requires-clause-below c =

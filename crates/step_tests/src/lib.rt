@@ -1,0 +1,14 @@
+//! Tests of what the next step may store, of the operator's script as it is read, of runs and single turns of small programs under it, and of
+//! texts that are none.
+#![tactic(auto)]
+
+#[cfg(test)]
+mod machines;
+#[cfg(test)]
+mod readings;
+#[cfg(test)]
+mod refusals;
+#[cfg(test)]
+mod stores;
+#[cfg(test)]
+mod turns;
