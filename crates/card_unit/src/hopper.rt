@@ -135,23 +135,25 @@ impl Hopper {
         ensures reads { ReadsNext self.old self.new (H.seen host.old) (H.seen host.new) result }
         ensures reads_on { ReadsOn self.old self.new (H.seen host.old) (H.seen host.new) }
     {
-        let front = match self.hold(host) {
-            Held::Yes(front) => front,
+        match self.hold(host) {
+            Held::Yes(_) => {}
             Held::Empty => return CardAnswer::Empty,
             Held::Jam { unit, line } => return CardAnswer::Jam { unit, line },
             Held::Failed => return CardAnswer::Failed,
-        };
+        }
         let last = match self.more_behind(host) {
             More::Yes => false,
             More::No => true,
             More::Failed => return CardAnswer::Failed,
         };
+        // Of the front where it stands, since a copy of it would have to be made first.
+        let card = match &self.front {
+            Some(front) => front.to_card(),
+            None => unreachable!(),
+        };
         self.front = None;
         self.read = self.read.with_one(self.from);
-        CardAnswer::Card {
-            card: front.to_card(),
-            last,
-        }
+        CardAnswer::Card { card, last }
     }
 
     /// How many cards were read since the hopper was made, those of the pile and those of Data.

@@ -51,6 +51,7 @@ pub enum CardIo {
 ///
 /// Stops: 2 where a digit's position is past the end of core; the digits before it stay, and the card is gone.
 /// Source: 1622 manual, read numerically; the order of its parts, and the tally, are this project's own.
+#[inline]
 pub fn read_num<const M: u32, H: Host>(
     core: &mut Core<M>,
     p: u32,
@@ -133,6 +134,7 @@ fn turn_on_last(panel: &mut Panel, last: bool)
 
 // How a reading ends of whose card so much was stored. The bad ones among its first characters, as many as core had room for, are
 // taken up; while 06 is off behind a card that was stored whole, there are none.
+#[inline]
 fn end(
     hopper: &mut Hopper,
     how: ReadAs,
@@ -161,7 +163,10 @@ fn end(
     }
 }
 
-// Takes up the bad ones among the first characters of the card that was read last: as many as core had room for.
+// Takes up the bad ones among the first characters of the card that was read last: as many as core had room for. It stands
+// apart, so that the reading of good cards is small enough to be compiled into the instruction.
+#[cold]
+#[inline(never)]
 fn take_up_first(hopper: &mut Hopper, how: ReadAs, card: &[u8], room: usize)
     requires { length card.now ≤ 80 }
     ensures { hopper.new ≡ with_taken_up how (take room card.now) hopper.old }

@@ -1,5 +1,5 @@
-use Rattle.std.proofs.Common.{refl, sym, ◌∙◌, ap, subst}
-use Rattle.std.specs.Prelude.{None, option_map}
+use Rattle.std.proofs.Common.{◌≡◌, refl, sym, ◌∙◌, ap, subst}
+use Rattle.std.specs.Prelude.{None, Some, option_map}
 use Rattle.card_code.specs.Entries.{behind}
 use Rattle.card_unit.specs.Hopper.{SaysBehind, IsOneAhead, TellsAtLeast, deck_left}
 use Rattle.card_unit.proofs.Hoppers.{front_taken, one_of_two, stay_on}
@@ -14,7 +14,7 @@ returns-clause-card g c =
       | in-Yes-more_behind w ↦ rw w.last-is w.in-Yes-more_behind.ensures.behind
       | in-No w ↦ rw w.last-is w.in-No.ensures.behind
     ] in
-    front_taken c.args.self.now c.hold.new.self c.more_behind.new.self _ _ _ _ c.in-Yes.front c.match-more_behind.last c.to_card.result.0 c.in-Yes.ensures.holds says refl refl refl c.to_card.ensures
+    front_taken c.args.self.now c.hold.new.self c.more_behind.new.self _ _ _ _ c.in-Some.front c.match-more_behind.last c.to_card-card.result.0 (record { stays = c.in-Yes.ensures.holds.stays; front = sym c.more_behind.ensures.deck.front ∙ c.in-Some.is }) says refl refl refl c.to_card-card.ensures
 
 pub returns-clause-alone : goal.returns-clause-alone
 returns-clause-alone g c = λ two.
@@ -27,15 +27,16 @@ returns-clause-reads g c = λ start readings had.
     let end = c.more_behind.new.self in
     let after = g.H.Host.seen c.more_behind.new.host in
     let held = c.in-Yes.ensures.reads start readings had in
+    let front : mid.front ≡ Some c.in-Some.front = sym c.more_behind.ensures.deck.front ∙ c.in-Some.is in
     let ahead : IsOneAhead (record end { front = None }) after.world =
     elim c.match-more_behind.branch [
-      | in-Yes-more_behind w ↦ w.in-Yes-more_behind.ensures.ahead c.in-Yes.front c.in-Yes.ensures.holds.front held.ahead
-      | in-No w ↦ w.in-No.ensures.ahead c.in-Yes.front c.in-Yes.ensures.holds.front held.ahead
+      | in-Yes-more_behind w ↦ w.in-Yes-more_behind.ensures.ahead c.in-Some.front front held.ahead
+      | in-No w ↦ w.in-No.ensures.ahead c.in-Some.front front held.ahead
     ] in
     record {
       text = _;
-      filled = c.to_card.ensures;
-      by = card_more start readings mid end _ _ _ c.in-Yes.front c.in-Yes.ensures.holds.front held c.more_behind.ensures.deck.left c.more_behind.ensures.same refl refl refl refl refl c.with_one-self.ensures
+      filled = c.to_card-card.ensures;
+      by = card_more start readings mid end _ _ _ c.in-Some.front front held c.more_behind.ensures.deck.left c.more_behind.ensures.same refl refl refl refl refl c.with_one-self.ensures
           ((returns-clause-card g c).left ∙ ap (option_map behind) (sym c.in-Yes.ensures.holds.stays.left)) ahead;
     }
 
