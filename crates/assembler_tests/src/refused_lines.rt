@@ -62,7 +62,7 @@ fn refused_of(alloc: Global, source: &[u8]) -> Result<Option<RefusedLine>, AsmFa
                 rule,
                 part,
             },
-        ) => Ok(Some(refused_line(source, statement, rule, part))),
+        ) => Ok(Some(refused_line(alloc, source, statement, rule, part)?)),
         Err(AsmFault::Memory) => Err(AsmFault::Memory),
     }
 }
@@ -90,7 +90,7 @@ fn a_refused_statement_is_shown_as_it_stands(rt: HostRuntime) -> Result<(), Fail
 #[test]
 fn a_statement_that_is_not_there_has_an_empty_line(rt: HostRuntime) -> Result<(), Fail> {
     for statement in [0, 2, u32::MAX] {
-        let line = refused_line(FULL.source, statement, Rule::NoEnd, None);
+        let line = refused_line(rt.alloc(), FULL.source, statement, Rule::NoEnd, None)?;
         assert!(rt; line.statement == statement);
         assert!(rt; line.text.is_empty() && line.bytes == 0);
     }

@@ -27,7 +27,8 @@ pub(crate) fn show<const M: u32>(
         return Ok(false);
     };
     let rule = Rule::UndefinedSymbol;
-    let refused = refused_line(&desk.source, statement, rule, part_of(line.second));
+    let part = part_of(line.second);
+    let refused = refused_line(desk.alloc, &desk.source, statement, rule, part)?;
     let text = front(desk.alloc, &refused.text, refused.text.len())?;
     println!(rt;
         "{}|{} {:?} {:?}|{} bytes|{text}",

@@ -21,3 +21,4 @@ pub mod FeatureStores
 pub mod RowStores
 pub mod StepStores
 pub mod StoredWords
+pub mod Checked

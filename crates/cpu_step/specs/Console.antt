@@ -9,19 +9,22 @@ use Rattle.typewriter.specs.declared.keyboard.Keyboard.{Keyboard}
 use Rattle.typewriter.specs.Keys.{lines_read, bad_keys}
 use Rattle.cpu_step.specs.declared.console.Console.{Console}
 use Rattle.cpu_step.specs.declared.machine.Machine.{Machine}
+use Rattle.cpu_step.specs.declared.machine.Mode.{Mode}
+use Rattle.cpu_step.specs.Checks.{part_in}
 use Rattle.cpu_step.specs.State.{State}
 
 -- the twelve cells that stand at an address, where they all lie in core
 abbrev pub cells_at : List ℕ → ℕ → Option (List ℕ)
 cells_at core a = if nat_le (a + 12) (length core) then Some (take 12 (drop a core)) else None
 
--- what is shown of core, registers, panel and arms, and of what was read
-abbrev pub shown_by : List ℕ → Regs → Panel → List ℕ → Hopper → Keyboard → Console
-shown_by core regs panel arms hopper keyboard = record {
+-- what is shown of core, registers, panel, arms and mode, and of what was read
+abbrev pub shown_by : List ℕ → Regs → Panel → List ℕ → Mode → Hopper → Keyboard → Console
+shown_by core regs panel arms mode hopper keyboard = record {
   regs = regs;
   cells = cells_at core regs.ir;
   panel = panel;
   arms = arms;
+  part = part_in mode core;
   cards = cards_read hopper;
   bad_cards = bad_cards hopper;
   lines = lines_read keyboard;
@@ -30,8 +33,8 @@ shown_by core regs panel arms hopper keyboard = record {
 
 -- what is shown of a machine
 abbrev pub shown_on : (m : ℕ) → Machine m → Console
-shown_on m machine = shown_by machine.core machine.regs machine.panel machine.arms machine.hopper machine.keys
+shown_on m machine = shown_by machine.core machine.regs machine.panel machine.arms machine.mode machine.hopper machine.keys
 
 -- WHAT A CONSOLE SHOWS of a state whose cards and lines a hopper and a keyboard have read
 abbrev pub console_of : State → Hopper → Keyboard → Console
-console_of s hopper keyboard = shown_by s.core s.regs s.panel s.arms hopper keyboard
+console_of s hopper keyboard = shown_by s.core s.regs s.panel s.arms s.mode hopper keyboard

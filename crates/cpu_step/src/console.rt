@@ -1,15 +1,13 @@
 // What an operator sees of a machine, and what its units have read.
 ghost use Rattle.std.specs.Prelude.{◌≡◌};
 
-use crate::machine::Machine;
+use crate::checks::{CELLS, CheckPart, check_part};
+use crate::machine::{Machine, Mode};
 use branch_ops::Regs;
 use card_unit::CardsRead;
 use disk_1311::DRIVES;
 use indicators::Panel;
 use read_checks::Tally;
-
-// How many cells an instruction has.
-const CELLS: u32 = 12;
 
 /// What the console of a machine shows, and what its card reader and its keyboard have read.
 ///
@@ -24,6 +22,9 @@ pub struct Console {
     pub panel: Panel,
     /// The cylinder where the arm of each disk drive stands.
     pub arms: [u32; DRIVES],
+    /// Which part of its instruction a check is about, where one stopped the machine: none for stops 10 and 11, which come behind a whole
+    /// instruction.
+    pub part: Option<CheckPart>,
     /// How many cards were read.
     pub cards: CardsRead,
     /// The bad characters of these.
@@ -36,6 +37,7 @@ pub struct Console {
 
 impl<const M: u32> Machine<M> {
     ghost use Rattle.cpu_step.specs.Console.{cells_at, shown_on};
+    ghost use Rattle.cpu_step.specs.Checks.{part_in};
 
     /// What the console shows.
     ///
@@ -48,10 +50,21 @@ impl<const M: u32> Machine<M> {
             cells: self.cells_at_ir(),
             panel: self.panel,
             arms: self.arms,
+            part: self.check_part(),
             cards: self.hopper.cards_read(),
             bad_cards: self.hopper.bad_characters(),
             lines: self.keys.lines_read(),
             bad_keys: self.keys.bad_characters(),
+        }
+    }
+
+    // Which part of its instruction a check is about, where one stopped the machine.
+    fn check_part(&self) -> Option<CheckPart>
+        ensures { result ≡ part_in self.now.mode self.now.core }
+    {
+        match self.mode {
+            Mode::Stopped { kind, at } => check_part(&self.core, kind, at),
+            _ => None,
         }
     }
 

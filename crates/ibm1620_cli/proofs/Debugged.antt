@@ -45,7 +45,7 @@ use Rattle.ibm1620_cli.specs.Turns.{Feed, feed_at, first_in, LoadedMachine}
 use Rattle.ibm1620_cli.specs.Sessions.{Debugging, course_from, session_from, session_job, session_promise}
 use Rattle.ibm1620_cli.specs.Program.{Program, deck_of, set_up_at_power_on}
 use Rattle.ibm1620_cli.specs.RunJob.{turned_promise}
-use Rattle.ibm1620_cli.specs.Source.{program_of, made_of, made_events, events_at, promise_by}
+use Rattle.ibm1620_cli.specs.Source.{program_of, made_of, made_events, events_at, promise_by, running_promise}
 use Rattle.ibm1620_cli.specs.DebugJob.{commands_read, keyed_over, debugging_of, debugged_promise, commands_promise, lines_promise}
 use Rattle.ibm1620_cli.specs.Parts.{ShowsMachine, BreaksKey, PressesKey, HoldsSession, lacks_memory, breaks_key, breaks_session, ends_session, Reports, StopsWithin}
 use Rattle.ibm1620_cli.proofs.Told.{if_both, if_told, if_mapped, of_map, map_twice}
@@ -115,6 +115,7 @@ module _ (before : List Event) (limit : ℕ) (placed : List PlacedText) (p : Pro
   fault_at new left answer fault shows rose part = inr (inl (record {
     status = fault;
     refusal = shows.refusal;
+    statement = shows.statement;
     rose = rose;
     part = if_mapped (λ j. StopsAt j answer.console base.world new.world) (λ feed. StopsAt (job feed) answer.console base.world new.world) told job (λ feed x. x) part;
   }))
@@ -260,11 +261,12 @@ module _ (before : List Event) (limit : ℕ) (placed : List PlacedText) (p : Pro
               leaves = machine_has p.modules (supply feed) left mid.world at at answer.console at_place has shows.console;
               inputs = machine_asks p.modules (supply feed) left (way feed) (powered_by feed) at all base.world mid.world at answer.console at_place (taken_from feed (events feed) at (record { cards = here.cards; lines = here.lines })) refl refl has shows.console (inr refl);
               refusal = λ sound. none_shown p.modules left answer shows;
+              program = refl;
             }
 
         for_end : (new : Seen) → Reports mid new SessionEnded answer.status → KeepsPromise promise base new answer
         for_end new reports =
-            promise_report promise base mid new SessionEnded (report_line SessionEnded) answer (omega (arith, later, key.makes.frames.later, out.frames.later)) refl refl (λ fault. shows.refusal)
+            promise_report promise base mid new SessionEnded (report_line SessionEnded) answer (omega (arith, later, key.makes.frames.later, out.frames.later)) refl refl (λ fault. shows.refusal) shows.statement
             (if_mapped Ready (λ feed. Ready (job feed)) told job (λ feed ready. ready)
             (if_both told session_done did_pressed (if_told By told first (place_of p.modules (run_state p.modules key.keyed script 0) pressed.world) is_first out.told))) reports
 
@@ -306,7 +308,7 @@ module _ (m : ℕ) (form : DeckForm) (limit : ℕ) (lines : List ScriptLine) (co
   promise_debug_unwritten start new s (inl lacks) = rw (lacks.0, lacks.1) (promise_memory (debugged_promise m form limit lines commands source start.world) start start (did_none start.world) (λ u read. refl) refl refl)
   promise_debug_unwritten start new s (inr stops) =
       let fails = stops_fails made start new stops.1 in
-      inr (inl (record { status = stops.0; refusal = refl; rose = fails.rose; part = job_part (feed_at start.world) (keyed_in start.world) start new (stops_asked made start new stops.1) fails.part }))
+      inr (inl (record { status = stops.0; refusal = refl; statement = refl; rose = fails.rose; part = job_part (feed_at start.world) (keyed_in start.world) start new (stops_asked made start new stops.1) fails.part }))
 
   -- the texts that may be there where no memory was found are those of a run
   same_made : (o : Option Refusal) (w : World) (P : List Event → Type 0) → IfSome (promise_by (debugged_promise m form limit lines commands) source o w).made.texts P → IfSome (promise_by (turned_promise m form limit lines) source o w).made.texts P
@@ -327,11 +329,11 @@ module _ (m : ℕ) (form : DeckForm) (limit : ℕ) (lines : List ScriptLine) whe
   pub commands_apart : (commands : List DebugCommand) (gone : Readings) (text : List ℕ) (t : Texts) (w : World)
       → commands_promise m form limit lines commands (world_with_texts t (world_after_take units.Commands gone w)) ≡ commands_promise m form limit lines commands (world_with_texts (record t { commands = text }) w)
   commands_apart commands gone text t w =
-      source_apart m (events_at m form) (debugged_promise m form limit lines commands) (world_with_texts t (world_after_take units.Commands gone w)) (world_with_texts (record t { commands = text }) w) refl refl (λ source. refl)
+      source_apart m (events_at m form) (running_promise m (debugged_promise m form limit lines commands)) (world_with_texts t (world_after_take units.Commands gone w)) (world_with_texts (record t { commands = text }) w) refl refl (λ source. refl)
 
   pub script_apart : (gone : Readings) (script : List ℕ) (t : Texts) (w : World) → lines_promise m form limit lines (world_with_texts t (world_after_take units.Script gone w)) ≡ lines_promise m form limit lines (world_with_texts (record t { script = script }) w)
   script_apart gone script t w =
       let old : World = world_with_texts t (world_after_take units.Script gone w) in
       let new : World = world_with_texts (record t { script = script }) w in
       read_apart units.Commands (commands_read m) (events_at m form) (commands_promise m form limit lines) old new refl refl
-      (λ commands. source_apart m (events_at m form) (debugged_promise m form limit lines commands) old new refl refl (λ source. refl))
+      (λ commands. source_apart m (events_at m form) (running_promise m (debugged_promise m form limit lines commands)) old new refl refl (λ source. refl))

@@ -21,11 +21,11 @@ use Rattle.ibm1620_cli.specs.declared.status.Status.{Status}
 use Rattle.ibm1620_cli.specs.declared.answer.Answer.{Answer}
 use Rattle.ibm1620_cli.specs.declared.status.Status.TheVariants.{SessionEnded, OutOfMemory}
 use Rattle.ibm1620_cli.specs.Binding.{all_bound}
-use Rattle.ibm1620_cli.specs.Promise.{Job, job_behind, Promise, job_read, is_own, Texts, world_with_texts, AreTold}
+use Rattle.ibm1620_cli.specs.Promise.{Job, job_behind, job_with_program, Promise, job_read, is_own, Texts, world_with_texts, AreTold}
 use Rattle.ibm1620_cli.specs.Promise as promise
 use Rattle.ibm1620_cli.specs.Turns.{Feed, status_of, ends_a_run, state_over, first_over, LoadedMachine, turns_job}
 use Rattle.ibm1620_cli.specs.Program.{deck_of, set_up_at_power_on, set_up_after_load, loaded_by}
-use Rattle.ibm1620_cli.specs.Source.{source_read, card_count, program_of, made_of, made_events, promise_by, assembly_promise}
+use Rattle.ibm1620_cli.specs.Source.{source_read, card_count, program_of, texts_of_program, made_of, made_events, promise_by, running_promise, assembly_promise}
 use Rattle.ibm1620_cli.specs.TrialJob.{trial_modules, trial_limit, job_of_trial, tried_promise}
 use Rattle.ibm1620_cli.specs.LoadJob.{script_read}
 use Rattle.ibm1620_cli.specs.Sessions.{session_job}
@@ -67,7 +67,7 @@ module _ (words : List (List ℕ)) (old new : Seen) (answer : Answer) (t : FedTr
 
     -- by the first broken statement of its source
     abbrev by : Option Refusal → Promise
-    by o = promise_by (tried_promise t.said.statements t.said.number) source o given
+    by o = promise_by (running_promise trial_modules (tried_promise t.said.statements t.said.number)) source o given
 
     job_is : (said_promise t.said given).job ≡ option_map (job_behind binds) (by (refusal_of (size trial_modules) source)).job
     job_is = ap (λ (command : Command). option_map (job_behind binds) (job_promise (modules_of t.said.core) command t.said given).job) t.command
@@ -77,13 +77,16 @@ module _ (words : List (List ℕ)) (old new : Seen) (answer : Answer) (t : FedTr
         let p = program_of trial_modules SelfLoading source in
         loaded_by p feed (state_over w (set_up_at_power_on p feed)) (first_over w (set_up_after_load p feed) [])
 
+    abbrev with_program : Job → Job
+    with_program j = job_with_program (texts_of_program trial_modules source) j
+
     abbrev tried : Feed → Job
-    tried feed = job_behind binds (job_of_trial t.said.statements t.said.number (card_count trial_modules SelfLoading source) (turns_job (Some (deck_of (program_of trial_modules SelfLoading source))) (made_events (made_of trial_modules SelfLoading source)) trial_limit (loaded feed)))
+    tried feed = job_behind binds (with_program (job_of_trial t.said.statements t.said.number (card_count trial_modules SelfLoading source) (turns_job (Some (deck_of (program_of trial_modules SelfLoading source))) (made_events (made_of trial_modules SelfLoading source)) trial_limit (loaded feed))))
 
     by_source : (o : Option Refusal) → is_own answer.status ≡ true → Does (option_map (job_behind binds) (by o).job) → Ends
     by_source (Some r) own does = inr (ap is_refused does.status)
     by_source None own does =
-        let one : Does (Some (tried t.feed)) = subst Does (ap (λ (o : Option Feed). option_map (job_behind binds) (option_map (job_of_trial t.said.statements t.said.number (card_count trial_modules SelfLoading source)) (option_map (λ feed. turns_job (Some (deck_of (program_of trial_modules SelfLoading source))) (made_events (made_of trial_modules SelfLoading source)) trial_limit (loaded feed)) o))) t.feed_is) does in
+        let one : Does (Some (tried t.feed)) = subst Does (ap (λ (o : Option Feed). option_map (job_behind binds) (option_map with_program (option_map (job_of_trial t.said.statements t.said.number (card_count trial_modules SelfLoading source)) (option_map (λ feed. turns_job (Some (deck_of (program_of trial_modules SelfLoading source))) (made_events (made_of trial_modules SelfLoading source)) trial_limit (loaded feed)) o)))) t.feed_is) does in
         let last = last_place trial_limit (loaded t.feed).first in
         inl (subst (λ (s : Status). ends_a_run s ≡ true) (sym one.status) (own_ends last.steps (ending_of last.state) (subst (λ (s : Status). is_own s ≡ true) one.status own)))
 
@@ -114,8 +117,11 @@ module _ (words : List (List ℕ)) (old new : Seen) (answer : Answer) (t : Sound
   abbrev behind : Option Job → Option Job
   behind o = option_map (job_behind (bind_events all_units t.said.names)) o
 
-  abbrev job_of : Feed → Job
-  job_of feed =
+  abbrev with_its_program : Job → Job
+  with_its_program j = job_with_program (texts_of_program m t.source) j
+
+  abbrev session_of_feed : Feed → Job
+  session_of_feed feed =
       session_job (Some (deck_of (program_of m form t.source))) (made_events (made_of m form t.source)) (debugging_of m t.said.limit t.lines t.commands t.source)
       (keyed_over (program_of m form t.source) bound t.lines feed)
 
@@ -131,9 +137,9 @@ module _ (words : List (List ℕ)) (old new : Seen) (answer : Answer) (t : Sound
     from_commands x = job_read (λ cs. (commands_promise m form t.said.limit t.lines cs here).job) x
 
     abbrev from_source : Result (List ℕ) Status → Option Job
-    from_source x = job_read (λ source. (assembly_promise m (debugged_promise m form t.said.limit t.lines t.commands) source here).job) x
+    from_source x = job_read (λ source. (assembly_promise m (running_promise m (debugged_promise m form t.said.limit t.lines t.commands)) source here).job) x
 
-    session_is : (said_promise t.said here).job ≡ behind (Some (job_of t.feed))
+    session_is : (said_promise t.said here).job ≡ behind (Some (with_its_program (session_of_feed t.feed)))
     session_is =
         ap (λ (command : Command). behind (job_promise m command t.said here).job) t.command
         ∙ ap (λ (left : Option (List ℕ)). behind (option_and_then (λ text. from_script (script_read m text)) left)) (told_text (bound.left units.Script) t.script texts.script t.script_is told.script)
@@ -142,8 +148,8 @@ module _ (words : List (List ℕ)) (old new : Seen) (answer : Answer) (t : Sound
         ∙ ap (λ (x : Result (List commands.DebugCommand) Status). behind (from_commands x)) t.commands_are
         ∙ ap (λ (left : Option (List ℕ)). behind (option_and_then (λ text. from_source (source_read text)) left)) (told_text (bound.left units.Source) t.source texts.source t.source_is told.source)
         ∙ ap (λ (x : Result (List ℕ) Status). behind (from_source x)) t.source_fits
-        ∙ ap (λ (x : Option Refusal). behind (promise_by (debugged_promise m form t.said.limit t.lines t.commands) t.source x here).job) t.unbroken
-        ∙ ap (λ (o : Option Feed). behind (option_map job_of o)) t.feed_is
+        ∙ ap (λ (x : Option Refusal). behind (promise_by (running_promise m (debugged_promise m form t.said.limit t.lines t.commands)) t.source x here).job) t.unbroken
+        ∙ ap (λ (o : Option Feed). behind (option_map with_its_program (option_map session_of_feed o))) t.feed_is
 
   session_said : DoesSaid t.said old new answer → (Rose old.faults new.faults → ⊥) → answer.status ≢ OutOfMemory → answer.status ≡ SessionEnded
   session_said kept none found = elim kept.keeps [

@@ -133,12 +133,19 @@ executes_later m steps limit hopper script old new answer (takes_turns pressed r
       report_later taken.mid new (status_of taken.steps taken.how) (report_line (status_of taken.steps taken.how)) answer.status taken.reports,
     )
 
--- and no statement is shown
+-- and no statement is shown of a refusal
 pub executes_unrefused : (m steps limit : ℕ) (hopper : Hopper) (script : Script) (old new : Seen) (answer : Answer) → Executes m steps limit hopper script old new answer → answer.refusal ≡ None
 executes_unrefused m steps limit hopper script old new answer (lacks_memory status same) = ap (λ (a : Answer). a.refusal) status
 executes_unrefused m steps limit hopper script old new answer (breaks_key status broke shows) = shows.refusal
 executes_unrefused m steps limit hopper script old new answer (breaks_steps pressed key status broke shows) = shows.refusal
 executes_unrefused m steps limit hopper script old new answer (takes_turns pressed ready_at key ready made taken) = taken.shows.refusal
+
+-- nor of the program
+pub executes_unstated : (m steps limit : ℕ) (hopper : Hopper) (script : Script) (old new : Seen) (answer : Answer) → Executes m steps limit hopper script old new answer → answer.statement ≡ None
+executes_unstated m steps limit hopper script old new answer (lacks_memory status same) = ap (λ (a : Answer). a.statement) status
+executes_unstated m steps limit hopper script old new answer (breaks_key status broke shows) = shows.statement
+executes_unstated m steps limit hopper script old new answer (breaks_steps pressed key status broke shows) = shows.statement
+executes_unstated m steps limit hopper script old new answer (takes_turns pressed ready_at key ready made taken) = taken.shows.statement
 
 -- WHAT LOADING DOES
 
@@ -167,6 +174,7 @@ pub shows_console : (m : ℕ) (machine : Machine m) (answer : Answer) (status : 
 shows_console m machine answer status console is shown = record {
   console = ap (λ (a : Answer). a.console) is ∙ ap (λ (c : Console). Some c) shown;
   refusal = ap (λ (a : Answer). a.refusal) is;
+  statement = ap (λ (a : Answer). a.statement) is;
 }
 
 -- and what is reported is its status
@@ -273,6 +281,7 @@ module _ {A : Type 0} (m steps limit : ℕ) (own : Option (List (List ℕ))) (be
   fault_at machine now new answer fault shows powered frames rose within = inr (inl (record {
     status = fault;
     refusal = shows.refusal;
+    statement = shows.statement;
     rose = rose;
     part = if_mapped (λ j. StopsAt j answer.console base.world new.world) (λ a. StopsAt (turns_job own before limit (loaded_machine a)) answer.console base.world new.world) told (λ a. turns_job own before limit (loaded_machine a)) (λ a x. x)
         (if_both told (λ a f here. f here)

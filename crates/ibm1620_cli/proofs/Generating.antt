@@ -36,7 +36,7 @@ module _ (statements number : ℕ) (start : Seen) where
   -- the source was written, and that is reported
   pub making_reports : (mid new : Seen) (status : Status) → Goes start mid (world_after_put units.Made source start.world) → Reports mid new (Generated statements) status → KeepsPromise promise start new (answer_of status)
   making_reports mid new status goes reports =
-      promise_report promise start mid new (Generated statements) (report_line (Generated statements)) (answer_of status) goes.later refl refl (λ is. refl)
+      promise_report promise start mid new (Generated statements) (report_line (Generated statements)) (answer_of status) goes.later refl refl (λ is. refl) refl
       (record {
         before = written;
         status_is = refl;
@@ -45,4 +45,5 @@ module _ (statements number : ℕ) (start : Seen) where
         leaves = refl;
         inputs = unasked (text_takes units.Made source) (λ u read. ap (λ (w : World). w.asked u) goes.world) refl;
         refusal = λ other. tt;
+        program = refl;
       }) reports

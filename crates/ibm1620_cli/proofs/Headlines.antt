@@ -27,10 +27,10 @@ use Rattle.ibm1620_cli.specs.declared.answer.Answer.{Answer}
 use Rattle.ibm1620_cli.specs.declared.status.Status.TheVariants.{OutOfMemory}
 use Rattle.ibm1620_cli.specs.Report.{report_line}
 use Rattle.ibm1620_cli.specs.Binding.{all_bound}
-use Rattle.ibm1620_cli.specs.Promise.{Job, job_read, job_behind, Ends, is_own, Texts, world_with_texts, AreTold}
+use Rattle.ibm1620_cli.specs.Promise.{Job, job_read, job_behind, job_with_program, Ends, is_own, Texts, world_with_texts, AreTold}
 use Rattle.ibm1620_cli.specs.Turns.{Feed, SetUp, ends_a_run, state_over, first_over, turns_job}
 use Rattle.ibm1620_cli.specs.Program.{Program, Fits, deck_of, loaded_by, set_up_at_power_on, set_up_after_load, set_up_at_start}
-use Rattle.ibm1620_cli.specs.Source.{source_read, program_of, made_of, made_events, promise_by, assembly_promise}
+use Rattle.ibm1620_cli.specs.Source.{source_read, program_of, texts_of_program, made_of, made_events, promise_by, running_promise, assembly_promise}
 use Rattle.ibm1620_cli.specs.LoadJob.{script_read}
 use Rattle.ibm1620_cli.specs.RunJob.{turned_promise, script_promise}
 use Rattle.ibm1620_cli.specs.Job.{modules_of, bind_event, bind_events, said_promise, DoesSaid, DoesWords, Tells}
@@ -109,8 +109,11 @@ module _ (words : List (List ℕ)) (old new : Seen) (answer : Answer) (r : Sound
   abbrev powered : Feed → State
   powered feed = state_over w (set_up_at_power_on p feed)
 
+  abbrev with_program : Job → Job
+  with_program j = job_with_program (texts_of_program (modules_of r.core) r.source) j
+
   abbrev whole : SetUp → Job
-  whole s = job_behind binds (turns_job (Some (deck_of p)) made r.limit (loaded_by p r.feed (powered r.feed) (first s)))
+  whole s = job_behind binds (with_program (turns_job (Some (deck_of p)) made r.limit (loaded_by p r.feed (powered r.feed) (first s))))
 
   abbrev said : Said
   said = run_said r.names r.limit r.statements r.number r.form r.core
@@ -124,7 +127,7 @@ module _ (words : List (List ℕ)) (old new : Seen) (answer : Answer) (r : Sound
     by_script x = job_read (λ lines. (script_promise (modules_of r.core) r.form r.limit lines given).job) x
 
     abbrev by_source : Result (List ℕ) Status → Option Job
-    by_source x = job_read (λ source. (assembly_promise (modules_of r.core) (turned_promise (modules_of r.core) r.form r.limit r.lines) source given).job) x
+    by_source x = job_read (λ source. (assembly_promise (modules_of r.core) (running_promise (modules_of r.core) (turned_promise (modules_of r.core) r.form r.limit r.lines)) source given).job) x
 
     job_is : (said_promise said given).job ≡ Some (whole (set_up_after_load p r.feed))
     job_is =
@@ -132,8 +135,8 @@ module _ (words : List (List ℕ)) (old new : Seen) (answer : Answer) (r : Sound
         ∙ ap (λ (x : Result (List ScriptLine) Status). option_map (job_behind binds) (by_script x)) (short_read (modules_of r.core) r.script (Ok r.lines) r.script_fits r.lines_are)
         ∙ ap (λ (left : Option (List ℕ)). option_map (job_behind binds) (option_and_then (λ text. by_source (source_read text)) left)) (told_text (w.left units.Source) r.source t.source r.source_is told.source)
         ∙ ap (λ (x : Result (List ℕ) Status). option_map (job_behind binds) (by_source x)) (short_source r.source r.source_fits)
-        ∙ ap (λ (x : Option Refusal). option_map (job_behind binds) (promise_by (turned_promise (modules_of r.core) r.form r.limit r.lines) r.source x given).job) r.unbroken
-        ∙ ap (λ (o : Option Feed). option_map (job_behind binds) (option_map (λ feed. turns_job (Some (deck_of p)) made r.limit (loaded_by p feed (powered feed) (first (set_up_after_load p feed)))) o)) r.feed_is
+        ∙ ap (λ (x : Option Refusal). option_map (job_behind binds) (promise_by (running_promise (modules_of r.core) (turned_promise (modules_of r.core) r.form r.limit r.lines)) r.source x given).job) r.unbroken
+        ∙ ap (λ (o : Option Feed). option_map (job_behind binds) (option_map with_program (option_map (λ feed. turns_job (Some (deck_of p)) made r.limit (loaded_by p feed (powered feed) (first (set_up_after_load p feed)))) o))) r.feed_is
 
   set_up_is : set_up_after_load p r.feed ≡ set_up_at_start p r.feed
   set_up_is = λ i. same_set_up p fits i r.feed

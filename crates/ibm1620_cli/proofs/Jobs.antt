@@ -41,8 +41,8 @@ some_first (suc n) (u ∷ us) names = first_on (bind_event u (names u)) (bind_ev
 -- words that are not plain
 pub usage_said : (old new : Seen) (status : Status) → Reports old new Usage status → KeepsPromise usage_promise old new (answer_of status)
 usage_said old new status reports =
-    promise_report usage_promise old old new Usage (report_line Usage) (answer_of status) (omega arith) refl refl (λ is. refl)
-    (record { before = []; status_is = refl; events_are = refl; did = did_none old.world; leaves = refl; inputs = unasked (refl, refl) (λ u read. refl) refl; refusal = λ other. tt }) reports
+    promise_report usage_promise old old new Usage (report_line Usage) (answer_of status) (omega arith) refl refl (λ is. refl) refl
+    (record { before = []; status_is = refl; events_are = refl; did = did_none old.world; leaves = refl; inputs = unasked (refl, refl) (λ u read. refl) refl; refusal = λ other. tt; program = refl }) reports
 
 pub usage_binds : (old new : Seen) (answer : Status) → Reports old new Usage answer → BindsNamed no_names old.world new.world answer
 usage_binds old new answer reports =
@@ -147,7 +147,7 @@ module _ (said : Said) (old : Seen) where
       record {
         texts = texts_told w;
         told = are_told w;
-        keeps = inr (inl (record { status = refl; refusal = refl; rose = some.rose; part = some_part new some (job_promise (modules_of said.core) said.command said (world_with_texts (texts_told w) w)).job }));
+        keeps = inr (inl (record { status = refl; refusal = refl; statement = refl; rose = some.rose; part = some_part new some (job_promise (modules_of said.core) said.command said (world_with_texts (texts_told w) w)).job }));
       }
 
   pub some_binds : (new : Seen) → BindsSome said.names old new → BindsNamed said.names old.world new.world HostFault

@@ -8,6 +8,7 @@ use Rattle.outside_io.specs.World.{World, Asked, Seen, Rose, Goes, same_unit, wo
 use Rattle.outside_io.proofs.InMemory.{same_unit-eq}
 use Rattle.outside_io.proofs.Worlds.{added_to-nil}
 use Rattle.cpu_step.specs.declared.console.Console.{Console}
+use Rattle.sps_listing.specs.declared.standing.StandingLine.{StandingLine}
 use Rattle.ibm1620_cli.specs.declared.status.Status.{Status}
 use Rattle.ibm1620_cli.specs.declared.status.Status.TheVariants.{HostFault, OutOfMemory}
 use Rattle.ibm1620_cli.specs.declared.answer.Answer.{Answer}
@@ -17,7 +18,7 @@ use Rattle.outside_io.specs.Events.{Event, text_events, IsFirstPart, DidAll}
 use Rattle.outside_io.proofs.EventLemmas.{did_on, did_text, first_none, first_on, first_text, FailsWithin}
 use Rattle.ibm1620_cli.specs.Makings.{AreMakings}
 use Rattle.ibm1620_cli.specs.Inputs.{EndsOnce, reads_nothing, reads_feed, reads_both}
-use Rattle.ibm1620_cli.specs.Promise.{Job, job_ending, job_behind, LeavesMachine, ShowsRefusal, Ends, TakesNone, Unasked, AsksForInputs, StopsAt, answer_of, texts_alone, Promise, promise_behind, KeepsPromise, is_own, is_usage}
+use Rattle.ibm1620_cli.specs.Promise.{ProgramTexts, Job, job_ending, job_behind, LeavesMachine, ShowsRefusal, ShowsStatement, Ends, TakesNone, Unasked, AsksForInputs, StopsAt, answer_of, texts_alone, Promise, promise_behind, KeepsPromise, is_own, is_usage}
 use Rattle.ibm1620_cli.specs.Parts.{ReportsAs, Reports, IsAlone, Stays}
 use Rattle.ibm1620_cli.proofs.Told.{if_some, all_some}
 use Rattle.ibm1620_cli.proofs.TakenInputs.{takes_before, makings_take, unasked_on, asks_on, asks_behind, stops_unasked}
@@ -117,18 +118,22 @@ both_makings (d ∷ ds) es a b = (a.0, both_makings ds es a.1 b)
 -- AN ANSWER OF A STATUS ALONE
 
 pub alone_of : (answer : Answer) (status : Status) → answer ≡ answer_of status → IsAlone answer
-alone_of answer status is = record { console = ap (λ (a : Answer). a.console) is; refusal = ap (λ (a : Answer). a.refusal) is }
+alone_of answer status is = record { console = ap (λ (a : Answer). a.console) is; refusal = ap (λ (a : Answer). a.refusal) is; statement = ap (λ (a : Answer). a.statement) is }
 
 pub alone_is : (answer : Answer) (status : Status) → answer.status ≡ status → IsAlone answer → answer ≡ answer_of status
-alone_is answer status is alone = λ i. record { status = is i; console = alone.console i; refusal = alone.refusal i }
+alone_is answer status is alone = λ i. record { status = is i; console = alone.console i; refusal = alone.refusal i; statement = alone.statement i }
 
 -- what is reported is the status of such an answer
 pub reports_of : (mid new : Seen) (said status : Status) (line : List ℕ) (answer : Answer) → answer ≡ answer_of status → ReportsAs mid new said line status → ReportsAs mid new said line answer.status
 reports_of mid new said status line answer is reports = subst (λ (a : Answer). ReportsAs mid new said line a.status) (sym is) reports
 
+-- no statement is shown, where a machine runs no program of a source
+pub unstated_shows : (program : Option ProgramTexts) (shown : Option Console) (line : Option StandingLine) → program ≡ None → line ≡ None → ShowsStatement program shown line
+unstated_shows program shown line none unstated = subst (λ (p : Option ProgramTexts). ShowsStatement p shown line) (sym none) unstated
+
 -- ENDS
 
--- a job of which the last line is all that is still to be done
+-- a job of which the last line is all that is still to be done, and whose machine runs no program of a source
 pub record ReadyJob (j : Job) (status : Status) (line : List ℕ) (answer : Answer) (old now : World) : Type 0 where
   pub before : List Event
   pub status_is : j.status ≡ status
@@ -137,6 +142,7 @@ pub record ReadyJob (j : Job) (status : Status) (line : List ℕ) (answer : Answ
   pub leaves : LeavesMachine j.rest answer.console now
   pub inputs : AsksForInputs j.rest j.way before answer.console old now
   pub refusal : answer.status ≢ HostFault → ShowsRefusal j.refusal answer.refusal
+  pub program : j.program ≡ None
 
 -- the host failed within a line that is reported last
 pub stops_reported : (j : Job) (before : List Event) (line : List ℕ) (shown : Option Console) (start : World) (mid new : Seen) → j.events ≡ before ++ text_events units.Report line → DidAll before start mid.world → AsksForInputs j.rest j.way before shown start mid.world
@@ -156,8 +162,8 @@ no_fault answer status own is fault = true≢false (sym own ∙ ap is_own (sym i
 
 -- the last line is reported
 pub promise_report : (c : Promise) (start mid new : Seen) (status : Status) (line : List ℕ) (answer : Answer) → start.faults ≤ mid.faults → is_own status ≡ true → is_usage status ≡ c.usage
-    → (answer.status ≡ HostFault → answer.refusal ≡ None) → IfSome c.job (λ j. ReadyJob j status line answer start.world mid.world) → ReportsAs mid new status line answer.status → KeepsPromise c start new answer
-promise_report c start mid new status line answer later own usage_is unshown ready (inl done) = inl (record {
+    → (answer.status ≡ HostFault → answer.refusal ≡ None) → answer.statement ≡ None → IfSome c.job (λ j. ReadyJob j status line answer start.world mid.world) → ReportsAs mid new status line answer.status → KeepsPromise c start new answer
+promise_report c start mid new status line answer later own usage_is unshown unstated ready (inl done) = inl (record {
   own = ap is_own done.0 ∙ own;
   usage_is = ap is_usage done.0 ∙ usage_is;
   all = if_some c.job (λ j r. record {
@@ -166,22 +172,25 @@ promise_report c start mid new status line answer later own usage_is unshown rea
         (did_on r.before (text_events units.Report line) start.world mid.world new.world r.did (did_text units.Report line mid.world new.world done.1.world));
     rest = rest_reported j.rest answer.console mid new line done.1 r.leaves;
     refusal = r.refusal (no_fault answer status own done.0);
+    statement = unstated_shows j.program answer.console answer.statement r.program unstated;
   }) ready;
 })
-promise_report c start mid new status line answer later own usage_is unshown ready (inr stops) = inr (inl (record {
+promise_report c start mid new status line answer later own usage_is unshown unstated ready (inr stops) = inr (inl (record {
   status = stops.0;
   refusal = unshown stops.0;
+  statement = unstated;
   rose = omega (arith, later, stops.1.rose);
   part = if_some c.job (λ j r. stops_reported j r.before line answer.console start.world mid new r.events_are r.did r.inputs stops.1) ready;
 }))
 
 -- a fault behind a first part, of which nothing is reported
-pub promise_fault : (c : Promise) (start mid new : Seen) (answer : Answer) → Rose start.faults mid.faults → IfSome c.job (λ j. StopsAt j answer.console start.world mid.world) → Reports mid new HostFault answer.status → answer.refusal ≡ None → KeepsPromise c start new answer
-promise_fault c start mid new answer rose part reports unshown =
+pub promise_fault : (c : Promise) (start mid new : Seen) (answer : Answer) → Rose start.faults mid.faults → IfSome c.job (λ j. StopsAt j answer.console start.world mid.world) → Reports mid new HostFault answer.status → answer.refusal ≡ None → answer.statement ≡ None → KeepsPromise c start new answer
+promise_fault c start mid new answer rose part reports unshown unstated =
     let u = unsaid mid new HostFault answer.status refl reports in
     inr (inl (record {
       status = fault_is mid new answer.status u.answers;
       refusal = unshown;
+      statement = unstated;
       rose = omega (arith, rose, u.later);
       part = subst (λ (w : World). IfSome c.job (λ j. StopsAt j answer.console start.world w)) (sym u.world) part;
     }))
@@ -194,6 +203,7 @@ pub promise_cut : (c : Promise) (start new : Seen) (status : Status) (before : L
 promise_cut c start new status before is none still fails = inr (inl (record {
   status = refl;
   refusal = refl;
+  statement = refl;
   rose = fails.rose;
   part = subst (λ (o : Option Job). IfSome o (λ j. StopsAt j None start.world new.world)) (sym is)
       (stops_unasked (job_ending status (report_line status) before) before (text_events units.Report (report_line status)) start.world new.world refl none still fails.part);
@@ -223,6 +233,7 @@ promise_lacking c start mid new answer did still unbound later plain reports alo
           | inr fault ↦ inr (inl (record {
             status = fault.0;
             refusal = alone.refusal;
+            statement = alone.statement;
             rose = omega (arith, later, fault.1);
             part = all_some c.job (λ j. subst (λ (o : Option Console). StopsAt j o start.world new.world) (sym alone.console) (none_part j start.world new.world here still_here));
           }))
@@ -233,7 +244,7 @@ promise_lacking c start mid new answer did still unbound later plain reports alo
 module _ (before : List Event) (old mid new : Seen) (did : DidAll before old.world mid.world) where
   pub own_on : (o : Option Job) (answer : Answer) → IfSome o (λ j. Ends j mid new answer) → IfSome (option_map (job_behind before) o) (λ j. Ends j old new answer)
   own_on None answer all = tt
-  own_on (Some j) answer all = record { status = all.status; did = did_on before j.events old.world mid.world new.world did all.did; rest = all.rest; refusal = all.refusal }
+  own_on (Some j) answer all = record { status = all.status; did = did_on before j.events old.world mid.world new.world did all.did; rest = all.rest; refusal = all.refusal; statement = all.statement }
 
   -- which takes no card and no line, and no input was asked
   pub part_on : TakesNone before → Unasked old.world mid.world → (o : Option Job) (shown : Option Console) → IfSome o (λ j. StopsAt j shown mid.world new.world) → IfSome (option_map (job_behind before) o) (λ j. StopsAt j shown old.world new.world)
@@ -250,7 +261,7 @@ module _ (before : List Event) (old mid new : Seen) (did : DidAll before old.wor
 -- behind bindings
 pub promise_bound : (binds : List Event) (c : Promise) (old mid new : Seen) → old.faults ≤ mid.faults → DidAll binds old.world mid.world → TakesNone binds → Unasked old.world mid.world → (answer : Answer) → KeepsPromise c mid new answer → KeepsPromise (promise_behind binds c) old new answer
 promise_bound binds c old mid new later did none still answer (inl own) = inl (record { own = own.own; usage_is = own.usage_is; all = own_on binds old mid new did c.job answer own.all })
-promise_bound binds c old mid new later did none still answer (inr (inl fault)) = inr (inl (record { status = fault.status; refusal = fault.refusal; rose = omega (arith, later, fault.rose); part = part_on binds old mid new did none still c.job answer.console fault.part }))
+promise_bound binds c old mid new later did none still answer (inr (inl fault)) = inr (inl (record { status = fault.status; refusal = fault.refusal; statement = fault.statement; rose = omega (arith, later, fault.rose); part = part_on binds old mid new did none still c.job answer.console fault.part }))
 promise_bound binds c old mid new later did none still answer (inr (inr lacks)) = inr (inr (record {
   words = lacks.words;
   plain = lacks.plain;
@@ -265,7 +276,7 @@ promise_bound binds c old mid new later did none still answer (inr (inr lacks)) 
 pub promise_made : (texts : List Event) → AreMakings texts → (j : Option Job) (more : List Event) (old mid new : Seen) → old.faults ≤ mid.faults → DidAll texts old.world mid.world → Unasked old.world mid.world → (answer : Answer)
     → KeepsPromise (record { job = j; made = texts_alone (Some more); usage = false }) mid new answer → KeepsPromise (record { job = option_map (job_behind texts) j; made = texts_alone (Some (texts ++ more)); usage = false }) old new answer
 promise_made texts makings j more old mid new later did still answer (inl own) = inl (record { own = own.own; usage_is = own.usage_is; all = own_on texts old mid new did j answer own.all })
-promise_made texts makings j more old mid new later did still answer (inr (inl fault)) = inr (inl (record { status = fault.status; refusal = fault.refusal; rose = omega (arith, later, fault.rose); part = part_on texts old mid new did (makings_take texts makings) still j answer.console fault.part }))
+promise_made texts makings j more old mid new later did still answer (inr (inl fault)) = inr (inl (record { status = fault.status; refusal = fault.refusal; statement = fault.statement; rose = omega (arith, later, fault.rose); part = part_on texts old mid new did (makings_take texts makings) still j answer.console fault.part }))
 promise_made texts makings j more old mid new later did still answer (inr (inr lacks)) = inr (inr (record {
   words = lacks.words;
   plain = lacks.plain;

@@ -9,6 +9,7 @@ mod Executed
 mod Loaded
 mod Scripts
 mod Sources
+mod Running
 mod Writes
 mod Makings
 mod Placings

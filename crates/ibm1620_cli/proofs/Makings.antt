@@ -111,7 +111,7 @@ module _ (m : ℕ) (form : DeckForm) (source : List ℕ) where
   -- all are written, and that is reported
   pub promise_written : (start mid new : Seen) (answered : Status) → Goes start mid (after_events start.world (made_events (made_of m form source))) → Reports mid new status answered → KeepsPromise (written_promise m form source start.world) start new (answer_of answered)
   promise_written start mid new answered goes reports =
-      promise_report (written_promise m form source start.world) start mid new status (report_line status) (answer_of answered) goes.later refl refl (λ is. refl)
+      promise_report (written_promise m form source start.world) start mid new status (report_line status) (answer_of answered) goes.later refl refl (λ is. refl) refl
       (record {
         before = made_events (made_of m form source);
         status_is = refl;
@@ -120,6 +120,7 @@ module _ (m : ℕ) (form : DeckForm) (source : List ℕ) where
         leaves = refl;
         inputs = unasked (made_take (made_of m form source)) (goes_unasked (made_events (made_of m form source)) start mid goes) refl;
         refusal = λ other. tt;
+        program = refl;
       }) reports
 
   -- nothing was written, or not all

@@ -98,7 +98,7 @@ module _ (m : ℕ) (source : List ℕ) (start : Seen) where
   -- all are written, and that is reported
   pub promise_placed : (mid new : Seen) (answered : Status) → Goes start mid (after_events start.world (placing_events p)) → Reports mid new status answered → KeepsPromise (placing_promise m source start.world) start new (answer_of answered)
   promise_placed mid new answered goes reports =
-      promise_report (placing_promise m source start.world) start mid new status (report_line status) (answer_of answered) goes.later refl refl (λ is. refl)
+      promise_report (placing_promise m source start.world) start mid new status (report_line status) (answer_of answered) goes.later refl refl (λ is. refl) refl
       (record {
         before = placing_events p;
         status_is = refl;
@@ -107,6 +107,7 @@ module _ (m : ℕ) (source : List ℕ) (start : Seen) where
         leaves = refl;
         inputs = unasked (placing_takes p) (goes_unasked (placing_events p) start mid goes) refl;
         refusal = λ other. tt;
+        program = refl;
       }) reports
 
   pub promise_placed_stops : (new : Seen) → StopsWithin (placing_events p) start new → KeepsPromise (placing_promise m source start.world) start new (answer_of HostFault)

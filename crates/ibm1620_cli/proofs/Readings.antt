@@ -119,7 +119,7 @@ module _ {A : Type 0} (u : unit.Unit) (other : is_read u ≡ false) (read : List
     promise_unread s answer (refused takes own plain) reports alone = record {
       texts = t.with takes.text;
       told = t.told takes.text takes.told;
-      keeps = promise_report (promise takes.text) start later new s (report_line s) answer takes.goes.later own plain (λ is. alone.refusal)
+      keeps = promise_report (promise takes.text) start later new s (report_line s) answer takes.goes.later own plain (λ is. alone.refusal) alone.statement
           (told_job (λ j. ReadyJob j s (report_line s) answer start.world later.world) read (Err s) (unread_by (given takes.text)) ((given takes.text).left u) takes.text (t.reads takes.text) takes.says
           (record {
             before = [];
@@ -129,12 +129,13 @@ module _ {A : Type 0} (u : unit.Unit) (other : is_read u ≡ false) (read : List
             leaves = alone.console;
             inputs = unasked (refl, refl) (still takes.gone takes.goes) alone.console;
             refusal = λ other. subst (ShowsRefusal None) (sym alone.refusal) tt;
+            program = refl;
           })) reports;
     }
     promise_unread s answer (failed loses is rose) reports alone = record {
       texts = t.with known;
       told = t.told known (told_or (start.world.left u) []);
-      keeps = promise_fault (promise known) start later new answer rose (all_some (promise known).job (λ j. subst (λ (shown : Option Console). StopsAt j shown start.world later.world) (sym alone.console) (none_part j start.world later.world (did_taken u loses.gone start.world later.world loses.goes.world) (still loses.gone loses.goes)))) (subst (λ (x : Status). Reports later new x answer.status) is reports) alone.refusal;
+      keeps = promise_fault (promise known) start later new answer rose (all_some (promise known).job (λ j. subst (λ (shown : Option Console). StopsAt j shown start.world later.world) (sym alone.console) (none_part j start.world later.world (did_taken u loses.gone start.world later.world loses.goes.world) (still loses.gone loses.goes)))) (subst (λ (x : Status). Reports later new x answer.status) is reports) alone.refusal alone.statement;
     }
     promise_unread s answer (lacking loses is) reports alone = record {
       texts = t.with known;
@@ -155,11 +156,12 @@ module _ {A : Type 0} (u : unit.Unit) (other : is_read u ≡ false) (read : List
     promise_read answer (inl own) = inl (record {
       own = own.own;
       usage_is = own.usage_is ∙ plain;
-      all = told_job _ read (Ok what) read_by (w.left u) takes.text reads takes.says (if_some (next what w).job (λ j a. record { status = a.status; did = before j.events a.did; rest = a.rest; refusal = a.refusal }) own.all);
+      all = told_job _ read (Ok what) read_by (w.left u) takes.text reads takes.says (if_some (next what w).job (λ j a. record { status = a.status; did = before j.events a.did; rest = a.rest; refusal = a.refusal; statement = a.statement }) own.all);
     })
     promise_read answer (inr (inl fault)) = inr (inl (record {
       status = fault.status;
       refusal = fault.refusal;
+      statement = fault.statement;
       rose = omega (arith, takes.goes.later, fault.rose);
       part = told_job _ read (Ok what) read_by (w.left u) takes.text reads takes.says (if_some (next what w).job (λ j stops. record {
         did = record { done = stops.did.done; part = stops.did.part; did = before stops.did.done stops.did.did };

@@ -18,7 +18,7 @@ use Rattle.ibm1620_cli.specs.Report.{report_line}
 use Rattle.ibm1620_cli.specs.Promise.{Job, job_behind, answer_of, Unasked, StopsAt, texts_alone, Promise, world_with_texts, Texts, KeepsPromise}
 use Rattle.ibm1620_cli.specs.Turns.{Feed, feed_at, LoadedMachine, turns_job, turns_promise, state_over, first_over}
 use Rattle.ibm1620_cli.specs.Program.{deck_of, set_up_at_power_on, set_up_after_load, loaded_by, program_promise}
-use Rattle.ibm1620_cli.specs.Source.{SourceTexts, program_of, made_of, made_events, events_by, events_of_source, events_at, promise_by}
+use Rattle.ibm1620_cli.specs.Source.{SourceTexts, program_of, made_of, made_events, events_by, events_of_source, events_at, promise_by, running_promise}
 use Rattle.ibm1620_cli.specs.RunJob.{turned_promise, script_promise}
 use Rattle.ibm1620_cli.specs.Parts.{StopsWithin}
 use Rattle.ibm1620_cli.proofs.Told.{map_twice}
@@ -79,11 +79,11 @@ module _ (m : ℕ) (form : DeckForm) (limit : ℕ) (lines : List ScriptLine) (so
   promise_run_unwritten start new s (inl lacks) = rw (lacks.0, lacks.1) (promise_memory (turned_promise m form limit lines source start.world) start start (did_none start.world) (λ u read. refl) refl refl)
   promise_run_unwritten start new s (inr stops) =
       let fails = stops_fails (made_events made) start new stops.1 in
-      inr (inl (record { status = stops.0; refusal = refl; rose = fails.rose; part = job_part (feed_at start.world) (loaded start.world) start new (stops_asked (made_events made) start new stops.1) fails.part }))
+      inr (inl (record { status = stops.0; refusal = refl; statement = refl; rose = fails.rose; part = job_part (feed_at start.world) (loaded start.world) start new (stops_asked (made_events made) start new stops.1) fails.part }))
 
 -- what is done behind the script is so whatever was taken from it, and whatever it was
 pub run_apart : (m : ℕ) (form : DeckForm) (limit : ℕ) (lines : List ScriptLine) (gone : Readings) (script : List ℕ) (t : Texts) (w : World) → script_promise m form limit lines (world_with_texts t (world_after_take units.Script gone w)) ≡ script_promise m form limit lines (world_with_texts (record t { script = script }) w)
-run_apart m form limit lines gone script t w = source_apart m (events_at m form) (turned_promise m form limit lines) (world_with_texts t (world_after_take units.Script gone w)) (world_with_texts (record t { script = script }) w) refl refl (λ source. refl)
+run_apart m form limit lines gone script t w = source_apart m (events_at m form) (running_promise m (turned_promise m form limit lines)) (world_with_texts t (world_after_take units.Script gone w)) (world_with_texts (record t { script = script }) w) refl refl (λ source. refl)
 
 -- the texts that may be there where no memory was found
 made_texts : (m : ℕ) (form : DeckForm) (limit : ℕ) (lines : List ScriptLine) (source : List ℕ) (o : Option Refusal) (w : World) (P : List Event → Type 0) → IfSome (promise_by (turned_promise m form limit lines) source o w).made.texts P → P (events_by m form o source)

@@ -1,5 +1,5 @@
 -- The promises of jobs once their source is read.
-use Rattle.std.proofs.Common.{◌≡◌, ◌≤◌, ℕ, Bool, true, false, List, [], ◌++◌, length, refl, sym, ◌∙◌, ap, subst, arith}
+use Rattle.std.proofs.Common.{◌≡◌, ◌≤◌, ℕ, Bool, true, false, List, [], ◌++◌, length, refl, sym, ◌∙◌, ap, subst, arith, inl, inr}
 use Rattle.std.proofs.lemmas.Bool.Decides.{nat_tests}
 use Rattle.std.specs.Prelude.{Option, Some, None, IfSome, option_map, Result, Ok, Err, nat_lt, if◌then◌else◌}
 use Rattle.outside_io.specs.declared.host.Unit as unit
@@ -11,6 +11,8 @@ use Rattle.digit_core.specs.Size.{size}
 use Rattle.sps_ops.specs.declared.rule.Rule.{Rule}
 use Rattle.sps_pass_one.specs.declared.fault.Fault.{Fault}
 use Rattle.sps_pass_one.specs.Layout.{Refusal}
+use Rattle.sps_pass_two.specs.declared.assembled.AsmFault.TheVariants.{Broken}
+use Rattle.sps_pass_two.specs.Assembling.{Assembles}
 use Rattle.sps_pass_two.specs.Broken.{refusal_of, statement_and_fault}
 use Rattle.sps_listing.specs.Texts.{refusal_line}
 use Rattle.sps_listing.specs.Refused.{refused_text}
@@ -23,7 +25,7 @@ use Rattle.ibm1620_cli.specs.Inputs.{reads_nothing, reads_source, reads_both}
 use Rattle.ibm1620_cli.specs.Report.{report_line}
 use Rattle.ibm1620_cli.specs.Reading.{text_read}
 use Rattle.ibm1620_cli.specs.Source.{longest_source, source_read, promise_by, assembly_promise, source_promise}
-use Rattle.ibm1620_cli.specs.Parts.{Reports, Refuses, TakesFrom, Unread, AssemblesOrRefuses, ReadsSource, RefusesSource, breaks, no_memory, EndsAtSource, without, with_broken, Stays}
+use Rattle.ibm1620_cli.specs.Parts.{Reports, Refuses, RefusesOrLacks, TakesFrom, Unread, AssemblesOrRefuses, ReadsSource, RefusesSource, breaks, no_memory, EndsAtSource, without, with_broken, Stays}
 use Rattle.ibm1620_cli.proofs.Kept.{report_stays, stays_on, stays_less, stays_same, promise_report, promise_memory}
 use Rattle.ibm1620_cli.proofs.Readings.{takes_stays, unread_stays, source_alone, promise_unread, keeps_read, read_apart}
 
@@ -60,7 +62,7 @@ reads_sound m start mid new bytes (Ok sound) takes assembles =
 reads_sound m start mid new bytes (Err answer) takes refuses = with_broken mid bytes (source_takes start mid bytes takes) refuses
 
 pub reads_none : (m : ℕ) (start mid new : Seen) (s status : Status) → Unread units.Source (text_read longest_source units.Source) start mid s → Reports mid new s status → EndsAtSource m start new (answer_of status)
-reads_none m start mid new s status none reports = without mid s (source_unread start mid s none) reports (record { console = refl; refusal = refl })
+reads_none m start mid new s status none reports = without mid s (source_unread start mid s none) reports (record { console = refl; refusal = refl; statement = refl })
 
 -- two worlds in which the same is done behind the source
 pub by_apart : (next : List ℕ → World → Promise) (source : List ℕ) (o : Option Refusal) (w v : World) → next source w ≡ next source v → promise_by next source o w ≡ promise_by next source o v
@@ -85,7 +87,7 @@ refused_promise next source None start new statement rule part answer is refuses
 refused_promise next source (Some r) start new statement rule part answer is refuses =
     let fault : Fault = record { rule = rule; part = part } in
     let pair : statement_and_fault r ≡ (statement, fault) = cc in
-    promise_report (promise_by next source (Some r) start.world) start start new (Refused statement rule) (refusal_line source statement rule part) answer (omega arith) refl refl refuses.unshown
+    promise_report (promise_by next source (Some r) start.world) start start new (Refused statement rule) (refusal_line source statement rule part) answer (omega arith) refl refl refuses.unshown refuses.unstated
     (record {
       before = [];
       status_is = λ i. Refused (pair i).0 (pair i).1.rule;
@@ -94,6 +96,7 @@ refused_promise next source (Some r) start new statement rule part answer is ref
       leaves = refuses.console;
       inputs = unasked (refl, refl) (λ u read. refl) refuses.console;
       refusal = λ other. subst (λ (p : ℕ × Fault). ShowsRefusal (Some (refused_text source p.0 p.1.rule p.1.part)) answer.refusal) (sym pair) (refuses.shows other);
+      program = refl;
     }) refuses.reports
 
 module _ (m : ℕ) (made : World → Option (List Event)) (next : List ℕ → World → Promise) (source : List ℕ) (follows : FollowsSource m made next source) where
@@ -146,6 +149,11 @@ made_nothing next source (Some r) w P is here = here
 
 pub follows_nothing : (m : ℕ) (next : List ℕ → World → Promise) (source : List ℕ) → ((w : World) → (next source w).usage ≡ false) → ((gone : Readings) (t : Texts) (w : World) → next source (world_after_take units.Source gone w) ≡ next source (world_with_texts t w)) → ((w : World) → (next source w).made ≡ texts_alone (Some [])) → FollowsSource m nothing_done next source
 follows_nothing m next source plain apart nothing = record { plain = plain; unbound = λ w. ap (λ (made : Making). made.bindings) (nothing w); apart = apart; texts = λ o w P good told here. made_nothing next source o w P (nothing w) here }
+
+-- a source is refused by its first broken statement, or there was no memory for that
+pub refuses_source : (m : ℕ) (source : List ℕ) (old new : Seen) (statement : ℕ) (rule : Rule) (part : Option ℕ) (answer : Answer) → Assembles (size m) source (Err (Broken statement rule part)) → RefusesOrLacks source statement rule part old new answer → RefusesSource m source old new answer
+refuses_source m source old new statement rule part answer broken (inl refuses) = breaks statement rule part broken refuses
+refuses_source m source old new statement rule part answer broken (inr lacks) = no_memory lacks.0 lacks.1
 
 -- WHAT IS READ
 

@@ -19,7 +19,7 @@ use Rattle.ibm1620_cli.specs.Inputs.{reads_nothing}
 use Rattle.ibm1620_cli.specs.Promise.{Job, answer_of, Ends, StopsAt, Promise, KeepsPromise}
 use Rattle.ibm1620_cli.specs.Turns.{Feed, feed_at, state_over, first_over, LoadedMachine, turns_job}
 use Rattle.ibm1620_cli.specs.Program.{Program, Fits, deck_of, set_up_at_power_on, set_up_after_load, loaded_by}
-use Rattle.ibm1620_cli.specs.Source.{card_count, program_of, made_of, made_events, promise_by}
+use Rattle.ibm1620_cli.specs.Source.{card_count, program_of, made_of, made_events, promise_by, running_promise}
 use Rattle.ibm1620_cli.specs.RunJob.{turned_promise}
 use Rattle.ibm1620_cli.specs.TrialJob.{trial_modules, trial_limit, steps_of, trial_line, line_behind, job_of_trial, with_trial, tried_promise, trial_promise}
 use Rattle.ibm1620_cli.specs.Parts.{RefusesSource, breaks, no_memory, ReportsBy, ReportsTrial, StopsWithin, Stays}
@@ -63,11 +63,13 @@ module _ (statements number cards : ℕ) (c : Promise) (start mid : Seen) (ran :
       did = subst (λ (ds : List Event). DidAll ds start.world mid.world) (sym (ap (λ (l : List ℕ). j.events ++ text_events units.Report l) (line_by j None all.status none) ∙ append-nil j.events)) all.did;
       rest = all.rest;
       refusal = all.refusal;
+      statement = all.statement;
     }) own.all);
   })
   without none (inr (inl fault)) = inr (inl (record {
     status = fault.status;
     refusal = fault.refusal;
+    statement = fault.statement;
     rose = fault.rose;
     part = if_map tried c.job (λ j. StopsAt j ran.console start.world mid.world) (if_some c.job (λ j stops. record {
       did = record {
@@ -95,29 +97,31 @@ module _ (statements number cards : ℕ) (c : Promise) (start mid : Seen) (ran :
             (did_on j.events (text_events units.Report line) start.world mid.world new.world all.did (did_text units.Report line mid.world new.world goes.world));
         rest = rest_reported j.rest ran.console mid new line goes all.rest;
         refusal = all.refusal;
+        statement = all.statement;
       }) own.all);
     })
     with_done new goes (inr (inl fault)) = absurd (steps_fault ran.status steps fault.status counts)
     with_done new goes (inr (inr lacks)) = absurd (steps_memory ran.status steps (ap (λ (a : Answer). a.status) lacks.plain) counts)
 
     -- a part of it is
-    with_part : (new : Seen) → start.faults ≤ mid.faults → ran.refusal ≡ None → IfSome c.job HasInputs → Stops mid new units.Report line → KeepsPromise c start mid ran → KeepsPromise whole start new (record ran { status = HostFault })
-    with_part new later unrefused inputs stops (inl own) = inr (inl (record {
+    with_part : (new : Seen) → start.faults ≤ mid.faults → ran.refusal ≡ None → ran.statement ≡ None → IfSome c.job HasInputs → Stops mid new units.Report line → KeepsPromise c start mid ran → KeepsPromise whole start new (record ran { status = HostFault })
+    with_part new later unrefused unstated inputs stops (inl own) = inr (inl (record {
       status = refl;
       refusal = unrefused;
+      statement = unstated;
       rose = omega (arith, later, stops.rose);
       part = if_map tried c.job (λ j. StopsAt j ran.console start.world new.world)
           (if_both c.job (λ j has all. stops_reported (tried j) j.events line ran.console start.world mid new (ap (λ (l : List ℕ). j.events ++ text_events units.Report l) (line_by j (Some steps) all.status counts)) all.did (ended_asks j start mid ran has all) stops) inputs own.all);
     }))
-    with_part new later unrefused inputs stops (inr (inl fault)) = absurd (steps_fault ran.status steps fault.status counts)
-    with_part new later unrefused inputs stops (inr (inr lacks)) = absurd (steps_memory ran.status steps (ap (λ (a : Answer). a.status) lacks.plain) counts)
+    with_part new later unrefused unstated inputs stops (inr (inl fault)) = absurd (steps_fault ran.status steps fault.status counts)
+    with_part new later unrefused unstated inputs stops (inr (inr lacks)) = absurd (steps_memory ran.status steps (ap (λ (a : Answer). a.status) lacks.plain) counts)
 
   -- whatever was added
-  promise_with : (new : Seen) (status : Status) → start.faults ≤ mid.faults → ran.refusal ≡ None → IfSome c.job HasInputs → (o : Option ℕ) → steps_of ran.status ≡ o → ReportsBy o statements number cards mid new ran.status status → KeepsPromise c start mid ran
+  promise_with : (new : Seen) (status : Status) → start.faults ≤ mid.faults → ran.refusal ≡ None → ran.statement ≡ None → IfSome c.job HasInputs → (o : Option ℕ) → steps_of ran.status ≡ o → ReportsBy o statements number cards mid new ran.status status → KeepsPromise c start mid ran
       → KeepsPromise whole start new (record ran { status = status })
-  promise_with new status later unrefused inputs None none reports kept = rw (reports.0, reports.1) (without none kept)
-  promise_with new status later unrefused inputs (Some steps) counts (inl done) kept = rw done.0 (with_done steps counts new done.1 kept)
-  promise_with new status later unrefused inputs (Some steps) counts (inr stops) kept = rw stops.0 (with_part steps counts new later unrefused inputs stops.1 kept)
+  promise_with new status later unrefused unstated inputs None none reports kept = rw (reports.0, reports.1) (without none kept)
+  promise_with new status later unrefused unstated inputs (Some steps) counts (inl done) kept = rw done.0 (with_done steps counts new done.1 kept)
+  promise_with new status later unrefused unstated inputs (Some steps) counts (inr stops) kept = rw stops.0 (with_part steps counts new later unrefused unstated inputs stops.1 kept)
 
 -- the line binds nothing, and reads nothing
 pub trial_stays : (o : Option ℕ) (statements number cards : ℕ) (old new : Seen) (status answer : Status) → ReportsBy o statements number cards old new status answer → Stays reads_nothing old.world new.world
@@ -155,10 +159,10 @@ module _ (statements number : ℕ) (source : List ℕ) (start : Seen) where
       (all_some (feed_at start.world) (λ feed. turns_inputs (Some (deck_of program)) texts trial_limit (loaded feed) (made_take (made_of trial_modules SelfLoading source)) (program_loaded program fits start.world [] feed)))
 
   -- its program was run, and the line is added
-  pub promise_tried : Fits program → (mid new : Seen) (ran : Answer) (status : Status) (count : ℕ) → count ≡ cards → start.faults ≤ mid.faults → ran.refusal ≡ None → ReportsTrial statements number count mid new ran.status status → KeepsPromise run start mid ran
+  pub promise_tried : Fits program → (mid new : Seen) (ran : Answer) (status : Status) (count : ℕ) → count ≡ cards → start.faults ≤ mid.faults → ran.refusal ≡ None → ran.statement ≡ None → ReportsTrial statements number count mid new ran.status status → KeepsPromise run start mid ran
       → KeepsPromise (tried_promise statements number source start.world) start new (record ran { status = status })
-  promise_tried fits mid new ran status count are later unrefused reports kept =
-      promise_with statements number cards run start mid ran new status later unrefused (run_inputs fits) (steps_of ran.status) refl
+  promise_tried fits mid new ran status count are later unrefused unstated reports kept =
+      promise_with statements number cards run start mid ran new status later unrefused unstated (run_inputs fits) (steps_of ran.status) refl
       (subst (λ (n : ℕ). ReportsTrial statements number n mid new ran.status status) are reports) kept
 
 -- Behind the making of the source.
@@ -167,7 +171,7 @@ module _ (statements number : ℕ) (start : Seen) where
   made = source_deck statements number
 
   abbrev by : Option Refusal → Promise
-  by o = promise_by (tried_promise statements number) made o start.world
+  by o = promise_by (running_promise trial_modules (tried_promise statements number)) made o start.world
 
   -- no memory was found
   plain_by : (o : Option Refusal) → (by o).usage ≡ false
@@ -183,9 +187,9 @@ module _ (statements number : ℕ) (start : Seen) where
 
   -- it breaks a rule, which is reported
   pub trial_refused : (new : Seen) (answer : Answer) → RefusesSource trial_modules made start new answer → KeepsPromise (trial_promise statements number start.world) start new answer
-  trial_refused new answer (breaks statement rule part broken reports) = refused_promise (tried_promise statements number) made (refusal_of (size trial_modules) made) start new statement rule part answer broken reports
+  trial_refused new answer (breaks statement rule part broken reports) = refused_promise (running_promise trial_modules (tried_promise statements number)) made (refusal_of (size trial_modules) made) start new statement rule part answer broken reports
   trial_refused new answer (no_memory is same) = rw (is, same) trial_lacks
 
   -- it breaks none
-  pub trial_unbroken : (new : Seen) (answer : Answer) → refusal_of (size trial_modules) made ≡ None → KeepsPromise (tried_promise statements number made start.world) start new answer → KeepsPromise (trial_promise statements number start.world) start new answer
+  pub trial_unbroken : (new : Seen) (answer : Answer) → refusal_of (size trial_modules) made ≡ None → KeepsPromise (running_promise trial_modules (tried_promise statements number) made start.world) start new answer → KeepsPromise (trial_promise statements number start.world) start new answer
   trial_unbroken new answer good kept = subst (λ (o : Option Refusal). KeepsPromise (by o) start new answer) (sym good) kept

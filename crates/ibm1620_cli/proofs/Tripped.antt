@@ -353,7 +353,7 @@ abbrev without_way : Job → Job
 without_way j = record j { way = None }
 
 ends_without : (j : Job) (old new : Seen) (answer : Answer) → Ends j old new answer → Ends (without_way j) old new answer
-ends_without j old new answer ends = record { status = ends.status; did = ends.did; rest = ends.rest; refusal = ends.refusal }
+ends_without j old new answer ends = record { status = ends.status; did = ends.did; rest = ends.rest; refusal = ends.refusal; statement = ends.statement }
 
 -- A load of a deck, by what the program tells
 module _ (words : List (List ℕ)) (old new : Seen) (answer : Answer) (r : LaterLoad words old.world) (deck : List ℕ) (cards : List (List ℕ)) (set_up : SetUp) where

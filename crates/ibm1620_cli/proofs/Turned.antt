@@ -169,11 +169,12 @@ module _ {A : Type 0} (m limit : ℕ) (own : Option (List (List ℕ))) (before :
           leaves = machine_has m (supply a) ended ran.world p.state p.state answer.console at_p has shows.console;
           inputs = machine_asks m (supply a) ended (way_of limit (loaded a)) (state_unloaded (loaded a)) p.state events start.world ran.world p.state answer.console at_p (turns_take before limit (loaded a) none (is_loaded a)) refl refl has shows.console (inr refl);
           refusal = λ sound. none_shown m ended answer shows;
+          program = refl;
         }
 
     promise_out : (new : Seen) → is_own status ≡ true → is_usage status ≡ false → Reports ran new status answer.status → KeepsPromise promise start new answer
     promise_out new ends usage reports =
-        promise_report promise start ran new status (report_line status) answer (omega (arith, later, out.frames.later)) ends usage (λ fault. shows.refusal)
+        promise_report promise start ran new status (report_line status) answer (omega (arith, later, out.frames.later)) ends usage (λ fault. shows.refusal) shows.statement
         (if_mapped Ready (λ a. Ready (job a)) told job (λ a r. r)
         (if_both told ready here (if_told (Last how steps) told first (place_of m (run_state m machine script 0) loaded_at.world) is_first out.last)))
         reports
@@ -203,7 +204,7 @@ module _ {A : Type 0} (m limit : ℕ) (own : Option (List (List ℕ))) (before :
       promise_fault promise start ran new answer (omega (arith, later, broke.rose))
       (if_mapped (λ j. StopsAt j answer.console start.world ran.world) (λ a. StopsAt (job a) answer.console start.world ran.world) told job (λ a r. r)
       (if_both told (part broke.frames steps answer.console shows.console) here (if_told (OnTheWay steps) told first (place_of m (run_state m machine script 0) loaded_at.world) is_first broke.on_the_way)))
-      reports shows.refusal
+      reports shows.refusal shows.statement
 
   -- the run ended, and is reported
   pub promise_run : (steps : ℕ) (how : Ending) → Runs m limit (moment m machine script 0 loaded_at) (moment m ended left_script steps ran) how → (new : Seen) (answer : Answer) → Reports ran new (status_of steps how) answer.status → ShowsMachine m ended answer

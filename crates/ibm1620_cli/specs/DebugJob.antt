@@ -23,7 +23,7 @@ use Rattle.ibm1620_cli.specs.Reading.{read_within}
 use Rattle.ibm1620_cli.specs.Turns.{Feed, feed_at, lines_of_feed, SetUp, state_over, first_over, LoadedMachine}
 use Rattle.ibm1620_cli.specs.Sessions.{Debugging, session_promise}
 use Rattle.ibm1620_cli.specs.Program.{Program, deck_of, cards_before, set_up_at_power_on}
-use Rattle.ibm1620_cli.specs.Source.{assembled_source, program_of, made_of, made_events, events_at, source_promise}
+use Rattle.ibm1620_cli.specs.Source.{assembled_source, program_of, made_of, made_events, events_at, running_promise, source_promise}
 use Rattle.ibm1620_cli.specs.LoadJob.{script_read}
 
 -- commands have so many bytes at most
@@ -76,7 +76,7 @@ debugged_promise m form limit lines commands source w =
 -- what is done once the commands are read
 abbrev pub commands_promise : ℕ → DeckForm → ℕ → List ScriptLine → List DebugCommand → World → Promise
 commands_promise m form limit lines commands =
-    source_promise m (events_at m form) (debugged_promise m form limit lines commands)
+    source_promise m (events_at m form) (running_promise m (debugged_promise m form limit lines commands))
 
 -- what is done once the script is read
 abbrev pub lines_promise : ℕ → DeckForm → ℕ → List ScriptLine → World → Promise

@@ -16,11 +16,11 @@ use Rattle.deck_punch.specs.declared.form.DeckForm.{DeckForm}
 use Rattle.command_line.specs.declared.words.CoreSize.{CoreSize}
 use Rattle.ibm1620_cli.specs.Job.{modules_of, bind_events}
 use Rattle.ibm1620_cli.specs.Binding.{all_bound}
-use Rattle.ibm1620_cli.specs.Promise.{Job, job_behind, Ends}
+use Rattle.ibm1620_cli.specs.Promise.{Job, job_behind, job_with_program, Ends}
 use Rattle.ibm1620_cli.specs.Turns.{Feed, feed_at, state_over, first_over, turns_job, ends_a_run}
 use Rattle.ibm1620_cli.specs.Program.{Program, deck_of, loaded_by, LoadsItself, set_up_at_power_on, set_up_after_load, set_up_at_start}
 use Rattle.ibm1620_cli.specs.LoadJob.{longest_script}
-use Rattle.ibm1620_cli.specs.Source.{program_of, made_of, made_events, longest_source}
+use Rattle.ibm1620_cli.specs.Source.{program_of, texts_of_program, made_of, made_events, longest_source}
 
 -- the bytes that some events write on a unit
 abbrev pub bytes_in : unit.Unit → List Event → List ℕ
@@ -67,20 +67,22 @@ abbrev pub program_in : {words : List (List ℕ)} {w : World} → SoundRun words
 program_in r = program_of (modules_of r.core) r.form r.source
 
 -- all that it does: its files are bound, its texts are written, the cards of its deck are taken, and then come the turns, as the instruction
--- table gives them, from the program's own machine on
+-- table gives them, from the program's own machine on; the program is that of its source
 abbrev pub job_in : {words : List (List ℕ)} {w : World} → SoundRun words w → Job
 job_in {w = w} r =
     let made = made_events (made_of (modules_of r.core) r.form r.source) in
     let powered = state_over (all_bound r.names w) (set_up_at_power_on (program_in r) r.feed) in
     let first = first_over (all_bound r.names w) (set_up_at_start (program_in r) r.feed) r.lines in
-    job_behind (bind_events all_units r.names) (turns_job (Some (deck_of (program_in r))) made r.limit (loaded_by (program_in r) r.feed powered first))
+    job_behind (bind_events all_units r.names)
+    (job_with_program (texts_of_program (modules_of r.core) r.source)
+    (turns_job (Some (deck_of (program_in r))) made r.limit (loaded_by (program_in r) r.feed powered first)))
 
 -- What the program of a sound run does, under its script and up to its limit:
 --   loads: the Load key over its deck, and the deck's steps, leave over any core the image over both standard tables, and enter the start;
 --       outside they take the deck's cards, and do nothing else;
 --   enters: so does the program's own machine, the data cards being in its hopper;
 --   does: the status is that of the turns from there on, all of their job was done, thing by thing, Data and Keys have what the machine
---       of the last place leaves of them, and the console is that of this place;
+--       of the last place leaves of them, the console is that of this place, and the statement is the one at its IR;
 --   texts: so each told text has the very bytes that the job writes on its unit;
 --   ending: the status is one of the six with which a run ends.
 pub record DoesProgram {words : List (List ℕ)} (old : Seen) (r : SoundRun words old.world) (new : Seen) (answer : Answer)

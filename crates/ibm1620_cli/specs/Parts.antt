@@ -39,7 +39,7 @@ use Rattle.ibm1620_cli.specs.declared.status.Status.TheVariants.{Refused, HostFa
 use Rattle.ibm1620_cli.specs.Inputs.{reads_feed, EndsOnce}
 use Rattle.ibm1620_cli.specs.Report.{report_line}
 use Rattle.ibm1620_cli.specs.Turns.{status_of}
-use Rattle.ibm1620_cli.specs.Promise.{is_own, is_usage, answer_of, ShowsRefusal}
+use Rattle.ibm1620_cli.specs.Promise.{ProgramTexts, is_own, is_usage, answer_of, ShowsRefusal, ShowsStatement}
 use Rattle.ibm1620_cli.specs.Program.{deck_of, KeepsProgramPromise}
 use Rattle.ibm1620_cli.specs.declared.source.SoundSource.{SoundSource}
 use Rattle.ibm1620_cli.specs.Reading.{text_read}
@@ -58,8 +58,14 @@ ReportsAs old new status line answer =
 pub record Refuses (source : List ℕ) (statement : ℕ) (rule : Rule) (part : Option ℕ) (old new : Seen) (answer : Answer) : Type 0 where
   pub reports : ReportsAs old new (Refused statement rule) (refusal_line source statement rule part) answer.status
   pub console : answer.console ≡ None
+  pub unstated : answer.statement ≡ None
   pub shows : answer.status ≢ HostFault → ShowsRefusal (Some (refused_text source statement rule part)) answer.refusal
   pub unshown : answer.status ≡ HostFault → answer.refusal ≡ None
+
+-- so it is refused; or no memory was found, and nothing is done
+abbrev pub RefusesOrLacks : List ℕ → ℕ → Rule → Option ℕ → Seen → Seen → Answer → Type 0
+RefusesOrLacks source statement rule part old new answer =
+    Refuses source statement rule part old new answer ⊎ ((answer ≡ answer_of OutOfMemory) × (new ≡ old))
 
 -- the report line of a status
 abbrev pub Reports : Seen → Seen → Status → Status → Type 0
@@ -69,6 +75,7 @@ Reports old new status answer = ReportsAs old new status (report_line status) an
 pub record IsAlone (answer : Answer) : Type 0 where
   pub console : answer.console ≡ None
   pub refusal : answer.refusal ≡ None
+  pub statement : answer.statement ≡ None
 
 -- the same units are in use, bound to the same names; inputs that are not read keep all that they had, and are not asked; one that no machine
 -- works with is found to have no more once at most; and a pack that is not worked with keeps what it had
@@ -199,6 +206,19 @@ ProgramPromise m form limit cards script old new answer =
 pub record ShowsMachine (m : ℕ) (machine : Machine m) (answer : Answer) : Type 0 where
   pub console : answer.console ≡ Some (shown_on m machine)
   pub refusal : answer.refusal ≡ None
+  pub statement : answer.statement ≡ None
+
+-- the program of a source that breaks no rule, of which this was assembled
+abbrev pub program_of_sound : SoundSource → ProgramTexts
+program_of_sound sound = record { source = sound.source.items; placed = placed_texts sound.assembled }
+
+-- an answer with the statement of a program at IR of its console, which is as it was in all else; after a fault of the host it has none
+pub record AddsStatement (p : ProgramTexts) (answer stated : Answer) : Type 0 where
+  pub status : stated.status ≡ answer.status
+  pub console : stated.console ≡ answer.console
+  pub refusal : stated.refusal ≡ answer.refusal
+  pub shows : answer.status ≢ HostFault → ShowsStatement (Some p) answer.console stated.statement
+  pub unshown : answer.status ≡ HostFault → stated.statement ≡ None
 
 -- the turns of a machine under a script, up to a limit, end somehow after some steps, and the status of that is reported, and the console shown
 pub record TakesTurns (m limit : ℕ) (machine : Machine m) (script : Script) (old new : Seen) (answer : Answer)

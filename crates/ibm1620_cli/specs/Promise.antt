@@ -13,8 +13,12 @@ use Rattle.cpu_step.specs.State.{State}
 use Rattle.cpu_step.specs.Machine.{is_read}
 use Rattle.cpu_step.specs.declared.console.Console.{Console}
 use Rattle.cpu_step.specs.Console.{console_of}
+use Rattle.sps_pass_two.specs.Assembled.{PlacedText}
+use Rattle.sps_listing.specs.Listing.{statement_at}
 use Rattle.sps_listing.specs.Refused.{RefusedText, ShowsRefused}
+use Rattle.sps_listing.specs.Standing.{StandingText, standing_text, ShowsStanding}
 use Rattle.sps_listing.specs.declared.refused_statement.RefusedLine.{RefusedLine}
+use Rattle.sps_listing.specs.declared.standing.StandingLine.{StandingLine}
 use Rattle.ibm1620_cli.specs.declared.status.Status.{Status}
 use Rattle.ibm1620_cli.specs.declared.answer.Answer.{Answer}
 use Rattle.ibm1620_cli.specs.declared.status.Status.TheVariants.{Usage, HostFault, OutOfMemory}
@@ -32,16 +36,22 @@ pub record Rest : Type 0 where
   pub cards : List Entry
   pub keys : List Entry
 
--- a job: how it ends, all that it does outside, in its order, where its machine ends, if it has one, and the way that goes, and the statement
--- that it refuses a source for, if it does
+-- the program of a source: the bytes of the source, and its statements as they were placed
+pub record ProgramTexts : Type 0 where
+  pub source : List ℕ
+  pub placed : List PlacedText
+
+-- a job: how it ends, all that it does outside, in its order, where its machine ends, if it has one, and the way that goes, the statement
+-- that it refuses a source for, if it does, and the program of a source that its machine runs, if it runs one
 pub record Job : Type 0 where
   pub status : Status
   pub events : List Event
   pub rest : Option Rest
   pub way : Option Way
   pub refusal : Option RefusedText
+  pub program : Option ProgramTexts
 
--- a line is reported behind some events, and the job ends so, its machine there
+-- a line is reported behind some events, and the job ends so, its machine there; of no source is it said that the machine runs its program
 abbrev pub job_leaving : Option Rest → Option Way → Status → List ℕ → List Event → Job
 job_leaving rest way status line before = record {
   status = status;
@@ -49,6 +59,7 @@ job_leaving rest way status line before = record {
   rest = rest;
   way = way;
   refusal = None;
+  program = None;
 }
 
 -- without a machine
@@ -74,6 +85,17 @@ pub record Promise : Type 0 where
   pub job : Option Job
   pub made : Making
   pub usage : Bool
+
+-- the same job, of which it is said that the machine runs the program of a source, and its promise
+abbrev pub job_with_program : ProgramTexts → Job → Job
+job_with_program p j = record j { program = Some p }
+
+abbrev pub promise_with_program : ProgramTexts → Promise → Promise
+promise_with_program p c = record {
+  job = option_map (job_with_program p) c.job;
+  made = c.made;
+  usage = c.usage;
+}
 
 -- a job behind some events, and its promise behind some bindings
 abbrev pub job_behind : List Event → Job → Job
@@ -127,13 +149,33 @@ ShowsRefusal None (Some line) = ⊥
 ShowsRefusal (Some r) None = ⊥
 ShowsRefusal (Some r) (Some line) = ShowsRefused r line
 
--- a job came to its end: this is its status, all of it was done, its machine, where it has one, leaves its inputs so and shows its console, and
--- the statement is shown that a source was refused for
+-- the statement of a program that stands at an address, where one does
+abbrev pub text_at : ProgramTexts → ℕ → Option StandingText
+text_at p address = option_map (standing_text p.source) (statement_at p.placed address)
+
+-- the statement that stands at IR of a console; none without a program, and none without a console
+abbrev pub text_at_ir : Option ProgramTexts → Option Console → Option StandingText
+text_at_ir None shown = None
+text_at_ir (Some p) None = None
+text_at_ir (Some p) (Some console) = text_at p console.regs.ir
+
+-- a statement is shown where there is one, and else none
+abbrev pub ShowsText : Option StandingText → Option StandingLine → Type 0
+ShowsText None line = line ≡ None
+ShowsText (Some text) line = IsSomeAnd line (λ l. ShowsStanding text l)
+
+-- the statement at IR of a console is shown
+abbrev pub ShowsStatement : Option ProgramTexts → Option Console → Option StandingLine → Type 0
+ShowsStatement program shown line = ShowsText (text_at_ir program shown) line
+
+-- a job came to its end: this is its status, all of it was done, its machine, where it has one, leaves its inputs so and shows its console, the
+-- statement is shown that a source was refused for, and, where the machine runs a program of a source, the statement that stands at IR
 pub record Ends (j : Job) (old new : Seen) (answer : Answer) : Type 0 where
   pub status : answer.status ≡ j.status
   pub did : DidAll j.events old.world new.world
   pub rest : LeavesMachine j.rest answer.console new.world
   pub refusal : ShowsRefusal j.refusal answer.refusal
+  pub statement : ShowsStatement j.program answer.console answer.statement
 
 -- an end of the job's own: all of it was done
 pub record OwnEnd (c : Promise) (old new : Seen) (answer : Answer) : Type 0 where
@@ -143,11 +185,11 @@ pub record OwnEnd (c : Promise) (old new : Seen) (answer : Answer) : Type 0 wher
 
 -- the answer of a status alone, with no console and no statement
 abbrev pub answer_of : Status → Answer
-answer_of status = record { status = status; console = None; refusal = None }
+answer_of status = record { status = status; console = None; refusal = None; statement = None }
 
 -- the answer of a status and of the console that a machine shows
 abbrev pub answer_with : Status → Console → Answer
-answer_with status console = record { status = status; console = Some console; refusal = None }
+answer_with status console = record { status = status; console = Some console; refusal = None; statement = None }
 
 -- no card and no line is taken
 abbrev pub TakesNone : List Event → Type 0
@@ -180,6 +222,7 @@ pub record StopsAt (j : Job) (shown : Option Console) (old new : World) : Type 0
 pub record FaultEnd (c : Promise) (old new : Seen) (answer : Answer) : Type 0 where
   pub status : answer.status ≡ HostFault
   pub refusal : answer.refusal ≡ None
+  pub statement : answer.statement ≡ None
   pub rose : Rose old.faults new.faults
   pub part : IfSome c.job (λ j. StopsAt j answer.console old.world new.world)
 

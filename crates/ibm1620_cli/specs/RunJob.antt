@@ -10,7 +10,7 @@ use Rattle.deck_punch.specs.declared.form.DeckForm.{DeckForm}
 use Rattle.ibm1620_cli.specs.declared.answer.Answer.{Answer}
 use Rattle.ibm1620_cli.specs.Promise.{Promise, KeepsPromise, KeepsJob, read_promise}
 use Rattle.ibm1620_cli.specs.Program.{program_promise}
-use Rattle.ibm1620_cli.specs.Source.{program_of, made_of, made_events, events_at, source_promise}
+use Rattle.ibm1620_cli.specs.Source.{program_of, made_of, made_events, events_at, running_promise, source_promise}
 use Rattle.ibm1620_cli.specs.LoadJob.{script_read}
 
 -- what is done for a source that breaks no rule: its texts are written, and then the turns are taken
@@ -20,7 +20,7 @@ turned_promise m form limit lines source w =
 
 -- what is done once the script is read
 abbrev pub script_promise : ℕ → DeckForm → ℕ → List ScriptLine → World → Promise
-script_promise m form limit lines = source_promise m (events_at m form) (turned_promise m form limit lines)
+script_promise m form limit lines = source_promise m (events_at m form) (running_promise m (turned_promise m form limit lines))
 
 -- THE PROMISE OF A RUN, from the world in which its files are bound
 abbrev pub run_promise : ℕ → DeckForm → ℕ → World → Promise

@@ -14,7 +14,7 @@ use Rattle.deck_punch.specs.declared.form.DeckForm.{DeckForm}
 use Rattle.ibm1620_cli.specs.declared.status.Status.{Status}
 use Rattle.ibm1620_cli.specs.declared.status.Status.TheVariants.{Refused}
 use Rattle.outside_io.specs.Events.{Event, text_events}
-use Rattle.ibm1620_cli.specs.Promise.{Job, job_ending, texts_alone, Promise, read_promise}
+use Rattle.ibm1620_cli.specs.Promise.{ProgramTexts, Job, job_ending, texts_alone, Promise, promise_with_program, read_promise}
 use Rattle.ibm1620_cli.specs.Reading.{text_read}
 use Rattle.ibm1620_cli.specs.Program.{Program, deck_of}
 
@@ -38,6 +38,10 @@ program_of m form source = record {
   image = (assembled_source m source).pieces;
   start = (assembled_source m source).start;
 }
+
+-- its program with the bytes of the source and with its statements, as they are placed
+abbrev pub texts_of_program : ℕ → List ℕ → ProgramTexts
+texts_of_program m source = record { source = source; placed = (assembled_source m source).placed }
 
 -- how many cards its deck has
 abbrev pub card_count : ℕ → DeckForm → List ℕ → ℕ
@@ -92,6 +96,10 @@ promise_by next source None w = next source w
 
 abbrev pub assembly_promise : ℕ → (List ℕ → World → Promise) → List ℕ → World → Promise
 assembly_promise m next source w = promise_by next source (refusal_of (size m) source) w
+
+-- what follows a source is done by a machine that runs its program
+abbrev pub running_promise : ℕ → (List ℕ → World → Promise) → List ℕ → World → Promise
+running_promise m next source w = promise_with_program (texts_of_program m source) (next source w)
 
 -- THE PROMISE OF A JOB once nothing but the source is to be read, by what follows where no rule is broken
 abbrev pub source_promise : ℕ → (World → Option (List Event)) → (List ℕ → World → Promise) → World → Promise

@@ -10,7 +10,7 @@ use Rattle.ibm1620_cli.specs.declared.status.Status.{Status}
 use Rattle.ibm1620_cli.specs.declared.answer.Answer.{Answer}
 use Rattle.ibm1620_cli.specs.declared.status.Status.TheVariants.{Halted, CheckStop, Limit, NeedCards, NeedKeys}
 use Rattle.ibm1620_cli.specs.Promise.{Job, Promise, KeepsPromise}
-use Rattle.ibm1620_cli.specs.Source.{card_count, assembly_promise}
+use Rattle.ibm1620_cli.specs.Source.{card_count, running_promise, assembly_promise}
 use Rattle.ibm1620_cli.specs.RunJob.{turned_promise}
 
 -- a trial is of one module of core
@@ -66,7 +66,7 @@ tried_promise statements number source w =
 -- THE PROMISE OF A TRIAL, from the world in which its files are bound
 abbrev pub trial_promise : ℕ → ℕ → World → Promise
 trial_promise statements number w =
-    assembly_promise trial_modules (tried_promise statements number) (source_deck statements number) w
+    assembly_promise trial_modules (running_promise trial_modules (tried_promise statements number)) (source_deck statements number) w
 
 -- What the functions of this job answer.
 

@@ -4,7 +4,7 @@ ghost use Rattle.ibm1620_cli.specs.Promise.{answer_of, answer_with};
 
 use crate::status::Status;
 use cpu_step::Console;
-use sps_listing::RefusedLine;
+use sps_listing::{RefusedLine, StandingLine};
 
 /// How a call of the program ends, and what belongs to that.
 ///
@@ -18,6 +18,9 @@ pub struct Answer {
     pub console: Option<Console>,
     /// The statement that a source was refused for, as it stands there; none where no source was refused, or the refusal could not be reported.
     pub refusal: Option<RefusedLine>,
+    /// The statement of a source that stands at IR of the console, where the machine runs the program of a source and one stands there; none by
+    /// `load`, after a fault of the host, and where no machine was powered on.
+    pub statement: Option<StandingLine>,
 }
 
 impl Answer {
@@ -29,6 +32,7 @@ impl Answer {
             status,
             console: None,
             refusal: None,
+            statement: None,
         }
     }
 
@@ -40,6 +44,7 @@ impl Answer {
             status,
             console: Some(console),
             refusal: None,
+            statement: None,
         }
     }
 }

@@ -14,6 +14,7 @@ use crate::reading::read_text;
 use crate::report::report;
 use crate::settings::Settings;
 use crate::source::{SoundSource, read_source, write_source};
+use crate::standing::with_statement;
 use crate::status::Status;
 use card_unit::Hopper;
 use console_debug::{CommandFault, Commands, SessionEnd, session};
@@ -86,7 +87,7 @@ fn read_commands<const M: u32, H: Host>(alloc: Global, host: &mut H) -> Result<C
     }
 }
 
-// Reads the source, assembles it, and carries the commands out over its program.
+// Reads the source, assembles it, carries the commands out over its program, and answers with the statement at IR.
 fn debug_by<const M: u32, H: Host>(
     alloc: Global,
     host: &mut H,
@@ -102,7 +103,10 @@ fn debug_by<const M: u32, H: Host>(
     ensures stays { Stays reads_program (H.seen host.old).world (H.seen host.new).world }
 {
     match read_source::<M, H>(alloc, host) {
-        Ok(sound) => debug_assembled::<M, H>(alloc, host, &sound, script, commands, settings),
+        Ok(sound) => {
+            let answer = debug_assembled::<M, H>(alloc, host, &sound, script, commands, settings);
+            with_statement(&sound, answer)
+        }
         Err(answer) => answer,
     }
 }

@@ -37,6 +37,7 @@ pub(crate) fn run_program<const M: u32, H: Host>(
     ensures stays { Stays reads_feed (H.seen host.old).world (H.seen host.new).world }
     ensures later { (H.seen host.old).faults ≤ (H.seen host.new).faults }
     ensures unrefused { result.refusal ≡ None }
+    ensures unstated { result.statement ≡ None }
 {
     let steps = deck_steps(cards.len() as u64, settings.form);
     execute::<M, H>(

@@ -12,6 +12,7 @@ use crate::program::run_program;
 use crate::report::report;
 use crate::settings::Settings;
 use crate::source::{SoundSource, read_source, write_source};
+use crate::standing::with_statement;
 use operator_script::Script;
 use outside_io::Host;
 use std::alloc::Global;
@@ -32,7 +33,7 @@ pub(crate) fn run_source<const M: u32, H: Host>(
     }
 }
 
-// Reads the source, assembles it, and runs its program under the script.
+// Reads the source, assembles it, runs its program under the script, and answers with the statement at IR.
 fn run_under<const M: u32, H: Host>(
     alloc: Global,
     host: &mut H,
@@ -46,7 +47,10 @@ fn run_under<const M: u32, H: Host>(
     ensures stays { Stays reads_program (H.seen host.old).world (H.seen host.new).world }
 {
     match read_source::<M, H>(alloc, host) {
-        Ok(sound) => run_assembled::<M, H>(alloc, host, &sound, script, settings),
+        Ok(sound) => {
+            let answer = run_assembled::<M, H>(alloc, host, &sound, script, settings);
+            with_statement(&sound, answer)
+        }
         Err(answer) => answer,
     }
 }

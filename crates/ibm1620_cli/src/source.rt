@@ -4,7 +4,7 @@ ghost use Rattle.digit_core.specs.Size.{IsSize};
 ghost use Rattle.card_columns.specs.Types.{card_bytes};
 ghost use Rattle.ibm1620_cli.specs.Source.{deck_text, made_events};
 ghost use Rattle.ibm1620_cli.specs.Inputs.{reads_nothing};
-ghost use Rattle.ibm1620_cli.specs.Parts.{IsSound, ReadsSource, AssemblesOrRefuses, Refuses, made_with, EventsOccur, WritesSource, Stays};
+ghost use Rattle.ibm1620_cli.specs.Parts.{IsSound, ReadsSource, AssemblesOrRefuses, RefusesOrLacks, made_with, EventsOccur, WritesSource, Stays};
 
 use crate::answer::Answer;
 use crate::reading::read_text;
@@ -61,26 +61,32 @@ pub(crate) fn assemble_or_refuse<const M: u32, H: Host>(
                 rule,
                 part,
             },
-        ) => Err(refuse(host, &source, statement, rule, part)),
+        ) => Err(refuse(alloc, host, &source, statement, rule, part)),
         Err(AsmFault::Memory) => Err(Answer::of(Status::OutOfMemory)),
     }
 }
 
-// Reports the first broken statement, and what the refusal shows of it, and answers it.
+// Reports the first broken statement, and what the refusal shows of it, and answers it; its line is made before anything is reported.
 fn refuse<H: Host>(
+    alloc: Global,
     host: &mut H,
     source: &[u8],
     statement: u32,
     rule: Rule,
     part: Option<u8>,
 ) -> Answer
-    ensures { Refuses source.now statement rule part (H.seen host.old) (H.seen host.new) result }
+    ensures { RefusesOrLacks source.now statement rule part (H.seen host.old) (H.seen host.new) result }
 {
+    let line = match refused_line(alloc, source, statement, rule, part) {
+        Ok(line) => line,
+        Err(AllocError) => return Answer::of(Status::OutOfMemory),
+    };
     match refusal(source, statement, rule, part, host) {
         Sent::Done => Answer {
             status: Status::Refused { statement, rule },
             console: None,
-            refusal: Some(refused_line(source, statement, rule, part)),
+            refusal: Some(line),
+            statement: None,
         },
         Sent::Failed => Answer::of(Status::HostFault),
     }

@@ -25,7 +25,8 @@ use command_line::{Command, CoreSize, Plain, plain_words};
 use outside_io::{Bound, Host};
 use std::alloc::{AllocError, Global};
 
-/// Does what the words say, over any host, and answers how that ended, with the console of the machine and the statement of a refused source.
+/// Does what the words say, over any host, and answers how that ended, with the console of the machine, the statement of a refused source, and
+/// the statement at IR.
 ///
 /// The words are those behind the program's name. `assemble` makes an object deck of a source; `load` runs a deck by the Load key, `run` a
 /// source, `debug` a source under the debugger's commands; `generate` makes a source by two numbers, `trial` runs such a one, and `disk`
@@ -111,7 +112,8 @@ use std::alloc::{AllocError, Global};
 /// The console is that of the machine where its last turn leaves it, of a session where it stands, or, after a fault, that of the place on its
 /// way where the machine stands: within the Load key, a step of its deck, a turn or a line of the session, or at its end. The counts of cards and
 /// lines and the bad characters are those of the cards and the lines that were taken. There is none where no machine was powered on. The
-/// statement is the one that the source is refused for.
+/// refused statement is the one that the source is refused for. The statement at IR is that of the source, by `run`, `debug` and `trial`: the
+/// last one whose instruction stands at IR of the console, where one does. There is none by `load`, and none after a fault of the host.
 ///
 /// Or the answer is `OutOfMemory`, for plain words alone: then no more was done than all bindings and a first part of the texts that are
 /// made of a source, with nothing punched, typed or reported, and no sector written; and Deck, Data and Keys were not asked. For plain words

@@ -11,6 +11,7 @@ use crate::execute::no_script;
 use crate::program::run_program;
 use crate::settings::Settings;
 use crate::source::{SoundSource, assemble_or_refuse, write_source};
+use crate::standing::with_statement;
 use crate::status::Status;
 use arrayvec::ArrayString;
 use command_line::STANDARD_LIMIT;
@@ -23,7 +24,7 @@ use std::alloc::Global;
 // A trial runs for so many steps at most: as many as a run without a limit.
 const TRIAL_LIMIT: u64 = STANDARD_LIMIT;
 
-// Makes a source of so many statements by a number, assembles it, and runs its program.
+// Makes a source of so many statements by a number, assembles it, runs its program, and answers with the statement at IR.
 pub(crate) fn try_source<H: Host>(
     alloc: Global,
     host: &mut H,
@@ -39,7 +40,10 @@ pub(crate) fn try_source<H: Host>(
         Err(_) => return Answer::of(Status::OutOfMemory),
     };
     match assemble_or_refuse::<1, H>(alloc, host, source) {
-        Ok(sound) => try_assembled(alloc, host, &sound, statements, number),
+        Ok(sound) => {
+            let answer = try_assembled(alloc, host, &sound, statements, number);
+            with_statement(&sound, answer)
+        }
         Err(answer) => answer,
     }
 }

@@ -3,3 +3,5 @@ pub mod ImageLines
 pub mod Characters
 pub mod Placed
 pub mod Lines
+pub mod Ahead
+pub mod OtherStatements

@@ -1,17 +1,21 @@
 -- What is shown of a refused statement.
 -- Source: this project's own.
-use Rattle.std.specs.Prelude.{◌≡◌, ℕ, Option, List, length, take}
+use Rattle.std.specs.Prelude.{◌≡◌, ⊤, ℕ, Option, Some, None, List, length, take}
 use Rattle.sps_ops.specs.declared.rule.Rule.{Rule}
+use Rattle.sps_listing.specs.declared.refused_statement.OtherStatement.{OtherStatement}
 use Rattle.sps_listing.specs.declared.refused_statement.RefusedLine.{RefusedLine}
 use Rattle.sps_listing.specs.Texts.{source_line_at}
+use Rattle.sps_listing.specs.Others.{OtherText, other_statement}
 
--- WHAT IS SHOWN OF A REFUSED STATEMENT: its number, its rule and part, the first 80 bytes of its line, and how many it has
+-- WHAT IS SHOWN OF A REFUSED STATEMENT: its number, its rule and part, the first 80 bytes of its line, how many it has, and the other
+-- statement that the refusal is about
 pub record RefusedText : Type 0 where
   pub statement : ℕ
   pub rule : Rule
   pub part : Option ℕ
   pub text : List ℕ
   pub bytes : ℕ
+  pub other : Option OtherText
 
 abbrev pub refused_text : List ℕ → ℕ → Rule → Option ℕ → RefusedText
 refused_text source statement rule part = record {
@@ -20,7 +24,22 @@ refused_text source statement rule part = record {
   part = part;
   text = take 80 (source_line_at source statement);
   bytes = length (source_line_at source statement);
+  other = other_statement source statement rule part;
 }
+
+-- another statement is that
+pub record ShowsOtherText (o : OtherText) (other : OtherStatement) : Type 0 where
+  pub statement : other.statement ≡ o.statement
+  pub rule : other.rule ≡ o.rule
+  pub text : other.text.items ≡ o.text
+  pub bytes : other.bytes ≡ o.bytes
+
+-- the same where there may be none
+abbrev pub ShowsOther : Option OtherText → Option OtherStatement → Type 0
+ShowsOther None None = ⊤
+ShowsOther None (Some other) = ⊥
+ShowsOther (Some o) None = ⊥
+ShowsOther (Some o) (Some other) = ShowsOtherText o other
 
 -- a refused line is that
 pub record ShowsRefused (r : RefusedText) (line : RefusedLine) : Type 0 where
@@ -29,3 +48,4 @@ pub record ShowsRefused (r : RefusedText) (line : RefusedLine) : Type 0 where
   pub part : line.part ≡ r.part
   pub text : line.text.items ≡ r.text
   pub bytes : line.bytes ≡ r.bytes
+  pub other : ShowsOther r.other line.other

@@ -26,7 +26,7 @@ returns-in-Ok-clause-promise g c =
 pub returns-in-Err-clause-promise : goal.returns-in-Err-clause-promise
 returns-in-Err-clause-promise g c =
     rw c.of.ensures
-    (promise_unread Commands refl (commands_read g.row.M) (events_at g.row.M c.args.settings.form) (commands_promise g.row.M c.args.settings.form c.args.settings.limit (lines_left c.args.script)) (g.H.Host.seen c.args.host.now) (g.H.Host.seen c.read_commands.new.host) (g.H.Host.seen c.report.new.host) (commands_alone (g.H.Host.seen c.args.host.now).world) c.in-Err.status (answer_of c.report.result) c.in-Err.ensures c.report.ensures (record { console = refl; refusal = refl }))
+    (promise_unread Commands refl (commands_read g.row.M) (events_at g.row.M c.args.settings.form) (commands_promise g.row.M c.args.settings.form c.args.settings.limit (lines_left c.args.script)) (g.H.Host.seen c.args.host.now) (g.H.Host.seen c.read_commands.new.host) (g.H.Host.seen c.report.new.host) (commands_alone (g.H.Host.seen c.args.host.now).world) c.in-Err.status (answer_of c.report.result) c.in-Err.ensures c.report.ensures (record { console = refl; refusal = refl; statement = refl }))
 
 pub returns-in-Ok-clause-stays : goal.returns-in-Ok-clause-stays
 returns-in-Ok-clause-stays g c = read_then units.Commands reads_program (g.H.Host.seen c.args.host.now) (g.H.Host.seen c.read_commands.new.host) (g.H.Host.seen c.debug_by.new.host) _ refl c.in-Ok.ensures.0 c.debug_by.ensures.stays

@@ -1,6 +1,6 @@
 use Rattle.std.proofs.Common.{◌∙◌, ap}
 use Rattle.loader_cards.specs.ObjectDeck.{steps_in}
-use Rattle.ibm1620_cli.proofs.Executed.{executes_stays, executes_later, executes_unrefused}
+use Rattle.ibm1620_cli.proofs.Executed.{executes_stays, executes_later, executes_unrefused, executes_unstated}
 use Rattle.ibm1620_cli.proofs.Programs.{keeps_program_promise}
 use Rattle.ibm1620_cli.proofs.program.run_program.Goals as goal
 
@@ -12,4 +12,5 @@ returns g c =
       stays = executes_stays g.row.M c.deck_steps-steps.result c.args.settings.limit c.of_cards.result c.args.script (g.H.Host.seen c.args.host.now) (g.H.Host.seen c.execute.new.host) c.execute.result c.execute.ensures;
       later = executes_later g.row.M c.deck_steps-steps.result c.args.settings.limit c.of_cards.result c.args.script (g.H.Host.seen c.args.host.now) (g.H.Host.seen c.execute.new.host) c.execute.result c.execute.ensures;
       unrefused = executes_unrefused g.row.M c.deck_steps-steps.result c.args.settings.limit c.of_cards.result c.args.script (g.H.Host.seen c.args.host.now) (g.H.Host.seen c.execute.new.host) c.execute.result c.execute.ensures;
+      unstated = executes_unstated g.row.M c.deck_steps-steps.result c.args.settings.limit c.of_cards.result c.args.script (g.H.Host.seen c.args.host.now) (g.H.Host.seen c.execute.new.host) c.execute.result c.execute.ensures;
     }

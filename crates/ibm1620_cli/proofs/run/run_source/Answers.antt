@@ -26,7 +26,7 @@ returns-in-Ok-clause-promise g c =
 pub returns-in-Err-clause-promise : goal.returns-in-Err-clause-promise
 returns-in-Err-clause-promise g c =
     rw c.of.ensures
-    (promise_unread Script refl (script_read g.row.M) (events_at g.row.M c.args.settings.form) (script_promise g.row.M c.args.settings.form c.args.settings.limit) (g.H.Host.seen c.args.host.now) (g.H.Host.seen c.read_script.new.host) (g.H.Host.seen c.report.new.host) (script_alone (g.H.Host.seen c.args.host.now).world) c.in-Err.status (answer_of c.report.result) c.in-Err.ensures c.report.ensures (record { console = refl; refusal = refl }))
+    (promise_unread Script refl (script_read g.row.M) (events_at g.row.M c.args.settings.form) (script_promise g.row.M c.args.settings.form c.args.settings.limit) (g.H.Host.seen c.args.host.now) (g.H.Host.seen c.read_script.new.host) (g.H.Host.seen c.report.new.host) (script_alone (g.H.Host.seen c.args.host.now).world) c.in-Err.status (answer_of c.report.result) c.in-Err.ensures c.report.ensures (record { console = refl; refusal = refl; statement = refl }))
 
 pub returns-in-Ok-clause-stays : goal.returns-in-Ok-clause-stays
 returns-in-Ok-clause-stays g c = read_then units.Script reads_program (g.H.Host.seen c.args.host.now) (g.H.Host.seen c.read_script.new.host) (g.H.Host.seen c.run_under.new.host) _ refl c.in-Ok.ensures.0 c.run_under.ensures.stays

@@ -3,6 +3,7 @@ use Rattle.digit_core.specs.Size.{size}
 use Rattle.sps_pass_two.specs.Broken.{refusal_of}
 use Rattle.sps_generator.specs.Generated.{source_deck}
 use Rattle.ibm1620_cli.specs.Promise.{world_with_texts}
+use Rattle.ibm1620_cli.specs.Source.{running_promise}
 use Rattle.ibm1620_cli.specs.GenerateJob.{generate_promise}
 use Rattle.ibm1620_cli.specs.TrialJob.{trial_modules, tried_promise, trial_promise}
 use Rattle.ibm1620_cli.proofs.Readings.{texts_told, keeps_told}
@@ -25,4 +26,4 @@ returns-in-Trial-clause-told g c =
     let source = source_deck c.args.plain.statements c.args.plain.number in
     rw c.in-Trial.is
     (keeps_told (trial_promise c.args.plain.statements c.args.plain.number) w (g.H.Host.seen c.args.host.now) (g.H.Host.seen c.try_source.new.host) c.try_source.result
-    (by_apart (tried_promise c.args.plain.statements c.args.plain.number) source (refusal_of (size trial_modules) source) w (world_with_texts (texts_told w) w) refl) c.try_source.ensures.promise)
+    (by_apart (running_promise trial_modules (tried_promise c.args.plain.statements c.args.plain.number)) source (refusal_of (size trial_modules) source) w (world_with_texts (texts_told w) w) refl) c.try_source.ensures.promise)

@@ -27,7 +27,7 @@ returns-in-Ok-write_source-clause-promise g c =
     let fits = fits_of 1 (omega arith, omega arith) SelfLoading c.args.sound.now.source.items c.requires.is.good in
     let kept = c.run_program-ran.ensures.promise (program_of 1 SelfLoading c.args.sound.now.source.items) fits refl refl c.in-Ok-write_source.ensures.does.1.are in
     promise_tried c.args.statements c.args.number c.args.sound.now.source.items (g.H.Host.seen c.args.host.now) fits (g.H.Host.seen c.run_program-ran.new.host) (g.H.Host.seen c.report_trial-status.new.host) c.run_program-ran.result c.report_trial-status.result c.len-count.result cards
-    (omega (arith, c.in-Ok-write_source.ensures.does.0.later, c.run_program-ran.ensures.later)) c.run_program-ran.ensures.unrefused c.report_trial-status.ensures
+    (omega (arith, c.in-Ok-write_source.ensures.does.0.later, c.run_program-ran.ensures.later)) c.run_program-ran.ensures.unrefused c.run_program-ran.ensures.unstated c.report_trial-status.ensures
     (subst (λ (lines : List ScriptLine). KeepsPromise (turned_promise 1 SelfLoading trial_limit lines c.args.sound.now.source.items (g.H.Host.seen c.args.host.now).world) (g.H.Host.seen c.args.host.now) (g.H.Host.seen c.run_program-ran.new.host) c.run_program-ran.result) c.in-Ok.ensures
     (promise_run_behind 1 SelfLoading trial_limit _ c.args.sound.now.source.items (g.H.Host.seen c.args.host.now) (g.H.Host.seen c.write_source.new.host) (g.H.Host.seen c.run_program-ran.new.host) c.run_program-ran.result c.in-Ok-write_source.ensures.does.0 kept))
 
