@@ -1,6 +1,7 @@
 // The codes that jobs over files end with, and what they say, in the folder where the test runs.
-use crate::job::do_job;
+use crate::job::do_over_files;
 use crate::tests::words_from;
+use finished_job::Said;
 use std::fs;
 
 // A job over `FILES` and the file `endless`, its code, and what is said.
@@ -60,14 +61,17 @@ const ROWS: [Row; 18] = [
                ibm1620: 1....6.....12..16......\n\
                ibm1620:            MOVE\n\
                ibm1620:            ^^^^\n\
+               ibm1620: bin/lint broken shows what else may be the matter\n\
                ibm1620: mend it; docs/assembler.md has the rule: 04 UnknownOperation\n",
     },
     Row {
         words: &["load", "--deck", "checks", "--report", "said"],
         code: 3,
         said: "ibm1620: check 06: no such operation code, at 00000\n\
+               ibm1620: it is about the instruction itself, at the cell 00000\n\
                ibm1620: look at the instruction's first two digits (docs/machine.md)\n\
-               ibm1620: CONSOLE IR 00000 CELLS 230000000000 IR2 00000 ON 09 SWITCHES - STOPS - ARMS 000,000,000,000 DECK 1 DATA 0 KEYS 0\n",
+               ibm1620: CONSOLE IR 00000 CELLS 230000000000 IR2 00000 ON 09 SWITCHES - STOPS - ARMS 000,000,000,000 DECK 1 DATA 0 KEYS 0 \
+               PART INSTRUCTION AT 00000\n",
     },
     Row {
         words: &[
@@ -209,26 +213,38 @@ fn writes_endless(rt: &HostRuntime) -> bool {
 }
 
 // The code of a job, and what it said.
-fn done(rt: &HostRuntime, texts: &[&str]) -> Option<(u8, Vec<u8>)> {
+fn done(rt: &HostRuntime, texts: &[&str]) -> Option<(u8, Said)> {
     let words = words_from(rt.alloc(), texts).ok()?;
-    let mut errors = Vec::new(rt.alloc());
-    let code = do_job(rt, &words, &mut errors).ok()?;
+    let mut errors = Said::new(rt.alloc());
+    let code = do_over_files(rt, &words, &mut errors).ok()?;
     Some((code, errors))
+}
+
+// What was said as one piece, or nothing; none where it is told no more, or more pieces were said.
+fn whole_text(errors: &Said) -> Option<&[u8]> {
+    match (errors.tells(), errors.pieces()) {
+        (true, []) => Some(&[]),
+        (true, [piece]) => Some(piece),
+        _ => None,
+    }
 }
 
 // Whether the job ends with this code, and says this and no more.
 fn ends(rt: &HostRuntime, texts: &[&str], code: u8, said: &str) -> bool {
     match done(rt, texts) {
-        Some((ended, errors)) => ended == code && errors.as_slice() == said.as_bytes(),
+        Some((ended, errors)) => ended == code && whole_text(&errors) == Some(said.as_bytes()),
         None => false,
     }
 }
 
 // Whether the words are told to have the name of a file where an option is wanted.
 fn is_refused(rt: &HostRuntime, texts: &[&str]) -> bool {
-    match done(rt, texts) {
-        Some((code, errors)) => {
-            code == 2 && errors.starts_with(b"ibm1620: cards stands where an option is wanted\n")
+    let Some((code, errors)) = done(rt, texts) else {
+        return false;
+    };
+    match whole_text(&errors) {
+        Some(text) => {
+            code == 2 && text.starts_with(b"ibm1620: cards stands where an option is wanted\n")
         }
         None => false,
     }

@@ -37,14 +37,12 @@ impl fmt::Display for NoStart {
                 "ibm1620: a word of the command line is not text in UTF-8\n\
                  ibm1620: give the files names in UTF-8\n",
             ),
-            NoStart::NoMemory => f.write_str(NO_MEMORY),
+            NoStart::NoMemory => {
+                f.write_str("ibm1620: there was not enough memory: free some and try again\n")
+            }
         }
     }
 }
-
-// What is said where memory is wanting.
-pub(crate) const NO_MEMORY: &str =
-    "ibm1620: there was not enough memory: free some and try again\n";
 
 // The words behind the program's name.
 pub(crate) fn words_of(rt: &HostRuntime) -> Result<Vec<String>, NoStart> {

@@ -1,12 +1,9 @@
 // What the program says and the code that it ends with.
-use crate::messages::Message;
-use crate::names::FileOption;
 use crate::standard::hold_standard;
 use crate::start::{NoStart, words_of};
-use crate::told::Told;
 use addr_indirect::Stop;
-use command_line::named_file;
-use ibm1620_cli::Status;
+use ibm1620_cli::{Answer, Status};
+use job_messages::{Ending, Message};
 use outside_io::{Cause, Doing, Trouble, Unit};
 use sps_ops::Rule;
 use std::alloc::{AllocError, Global};
@@ -25,19 +22,24 @@ pub(crate) fn words_from(alloc: Global, texts: &[&str]) -> Result<Vec<String>, A
 fn said(
     alloc: Global,
     status: Status,
-    trouble: Option<&Trouble>,
+    trouble: Option<Trouble>,
     texts: &[&str],
 ) -> Result<String, AllocError> {
     let words = words_from(alloc, texts)?;
-    let message = Message {
+    let answer = Answer {
         status,
-        trouble,
-        refused: None,
-        told: Told::nothing(),
-        mistaken: None,
-        words: &words,
-        alloc,
+        console: None,
+        refusal: None,
+        statement: None,
     };
+    let ending = Ending {
+        status,
+        answer: &answer,
+        trouble: trouble.as_ref(),
+        asks_console: false,
+        lost_cards: 0,
+    };
+    let message = Message::of(ending, &words, alloc);
     format!(in alloc; "{message}")
 }
 
@@ -45,7 +47,7 @@ fn said(
 fn says(
     alloc: Global,
     status: Status,
-    trouble: Option<&Trouble>,
+    trouble: Option<Trouble>,
     texts: &[&str],
     want: &str,
 ) -> bool {
@@ -120,6 +122,7 @@ const STATUSES: [(Status, &[&str], &str); 22] = [
         },
         RUN,
         "ibm1620: --source source.txt: statement 3: a name that is the label of no statement\n\
+         ibm1620: bin/lint source.txt shows what else may be the matter\n\
          ibm1620: mend it; docs/assembler.md has the rule: 08 UndefinedSymbol\n",
     ),
     (
@@ -363,7 +366,7 @@ fn tells_refused(alloc: Global, texts: &[&str], unit: Unit, doing: Doing, want: 
         doing,
         cause: refused(),
     };
-    says(alloc, Status::HostFault, Some(&trouble), texts, want)
+    says(alloc, Status::HostFault, Some(trouble), texts, want)
 }
 
 // What failed at a unit, and what is said.
@@ -441,7 +444,7 @@ fn tells_cause(alloc: Global, cause: Cause, want: &str) -> bool {
         doing: Doing::Write,
         cause,
     };
-    says(alloc, Status::HostFault, Some(&trouble), LOAD, want)
+    says(alloc, Status::HostFault, Some(trouble), LOAD, want)
 }
 
 // The causes that are not the system's.
@@ -484,7 +487,7 @@ fn a_blank_pack_without_memory(rt: HostRuntime) {
     };
     let want = "ibm1620: the blank pack: a sector cannot be written: out of memory\n\
                 ibm1620: free some memory, or name a file by --pack FILE\n";
-    assert!(rt; says(rt.alloc(), Status::HostFault, Some(&trouble), LOAD, want));
+    assert!(rt; says(rt.alloc(), Status::HostFault, Some(trouble), LOAD, want));
 }
 
 // Words that are not plain name no file, even where an option stands among them.
@@ -494,94 +497,6 @@ fn the_report_of_usage_has_no_file(rt: HostRuntime) {
     let want = "ibm1620: the standard output: cannot be written: permission denied\n\
                 ibm1620: see that it is open and has room, or name a file by --report FILE\n";
     assert!(rt; tells_refused(rt.alloc(), &words, Unit::Report, Doing::Write, want));
-}
-
-// The units that a job of the debugger may name files for.
-const OF_DEBUG: [Unit; 12] = [
-    Unit::Source,
-    Unit::Commands,
-    Unit::Object,
-    Unit::Image,
-    Unit::Listing,
-    Unit::Data,
-    Unit::Keys,
-    Unit::Script,
-    Unit::Pack,
-    Unit::Punched,
-    Unit::Typed,
-    Unit::Report,
-];
-
-// The option of a unit's file.
-fn option_of(alloc: Global, unit: Unit) -> Result<String, AllocError> {
-    let option = FileOption(unit);
-    format!(in alloc; "{option}")
-}
-
-// The words of a job of the debugger that names a file for each unit.
-fn debug_words(alloc: Global) -> Result<Vec<String>, AllocError> {
-    let mut words = words_from(alloc, &["debug"])?;
-    for unit in OF_DEBUG {
-        words.push(option_of(alloc, unit)?)?;
-        words.push(String::from_str(alloc, unit.word())?)?;
-    }
-    Ok(words)
-}
-
-// Whether the words name this file for the unit.
-fn names(alloc: Global, words: &[String], unit: Unit, file: &str) -> bool {
-    match named_file(alloc, words, unit) {
-        Ok(Some(name)) => name == file,
-        _ => false,
-    }
-}
-
-// Whether these texts, and the unit's option with a file behind them, name that file for the unit.
-fn option_names(alloc: Global, texts: &[&str], unit: Unit, file: &str) -> bool {
-    match words_with_option(alloc, texts, unit, file) {
-        Ok(words) => names(alloc, &words, unit, file),
-        Err(_) => false,
-    }
-}
-
-// The texts as words, and behind them the unit's option and a file.
-fn words_with_option(
-    alloc: Global,
-    texts: &[&str],
-    unit: Unit,
-    file: &str,
-) -> Result<Vec<String>, AllocError> {
-    let mut words = words_from(alloc, texts)?;
-    words.push(option_of(alloc, unit)?)?;
-    words.push(String::from_str(alloc, file)?)?;
-    Ok(words)
-}
-
-// Whether the words of the debugger name each unit's own file.
-fn names_each(alloc: Global) -> bool {
-    let Ok(words) = debug_words(alloc) else {
-        return false;
-    };
-    for unit in OF_DEBUG {
-        if !names(alloc, &words, unit, unit.word()) {
-            return false;
-        }
-    }
-    true
-}
-
-// The options that a unit is told by are those of the command line.
-#[test]
-fn each_option_names_its_unit(rt: HostRuntime) {
-    assert!(rt; names_each(rt.alloc()));
-    let generate = ["generate", "--number", "1", "--statements", "8"];
-    let rows: [(&[&str], Unit, &str); 2] = [
-        (&["load"], Unit::Deck, "cards"),
-        (&generate, Unit::Made, "made"),
-    ];
-    for (texts, unit, file) in rows {
-        assert!(rt; option_names(rt.alloc(), texts, unit, file));
-    }
 }
 
 // Whether what is said where the words are not plain has lines of under 80 bytes alone.
@@ -599,7 +514,8 @@ fn usage_is_narrow(alloc: Global) -> bool {
 
 // Whether the option of the unit's file stands in what is said there.
 fn usage_mentions(alloc: Global, unit: Unit) -> bool {
-    match option_of(alloc, unit) {
+    let word = unit.word();
+    match format!(in alloc; "--{word}") {
         Ok(option) => mentions(alloc, Status::Usage, option.as_str()),
         Err(_) => false,
     }

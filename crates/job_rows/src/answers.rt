@@ -1,10 +1,11 @@
-// What an answer has besides its status, as it is shown: the console of its machine, and the statement that its source was refused for.
+// What an answer has besides its status, as it is shown: the console of its machine, the statement that its source was refused for, and the
+// one that stands at IR.
 use crate::texts::shown_line;
-use cpu_step::Console;
+use cpu_step::{CheckPart, Console};
 use indicators::Panel;
 use outside_io::Unit;
 use read_checks::{BadCharacter, Tally};
-use sps_listing::RefusedLine;
+use sps_listing::{OtherStatement, RefusedLine, StandingLine};
 use std::alloc::{AllocError, Global};
 use std::io;
 
@@ -13,6 +14,9 @@ use std::io;
 pub(crate) enum AnswerPart {
     Console,
     Refusal,
+    Statement,
+    // What is said of the whole job.
+    Said,
 }
 
 impl AnswerPart {
@@ -21,6 +25,8 @@ impl AnswerPart {
         match name {
             "console" => Some(AnswerPart::Console),
             "refusal" => Some(AnswerPart::Refusal),
+            "statement" => Some(AnswerPart::Statement),
+            "said" => Some(AnswerPart::Said),
             _ => None,
         }
     }
@@ -160,6 +166,31 @@ fn tally_text(alloc: Global, tally: &Tally) -> Result<String, AllocError> {
     }
 }
 
+// An address, or a hyphen for none.
+fn address_text(alloc: Global, address: Option<u32>) -> Result<String, AllocError> {
+    match address {
+        Some(address) => format!(in alloc; "{address:05}"),
+        None => String::from_str(alloc, "-"),
+    }
+}
+
+// The part of an instruction that a check is about, behind a blank; nothing without one.
+fn part_text(alloc: Global, part: Option<CheckPart>) -> Result<String, AllocError> {
+    match part {
+        None => Ok(String::new(alloc)),
+        Some(CheckPart::Instruction { cell }) => {
+            format!(in alloc; " PART INSTRUCTION AT {cell:05}")
+        }
+        Some(CheckPart::P { units }) => format!(in alloc; " PART P AT {units:05}"),
+        Some(CheckPart::Q { units }) => format!(in alloc; " PART Q AT {units:05}"),
+        Some(CheckPart::Action { p, q, cell }) => {
+            let at = address_text(alloc, cell)?;
+            let q = address_text(alloc, q)?;
+            format!(in alloc; " PART ACTION AT {at} P {p:05} Q {q}")
+        }
+    }
+}
+
 // Prints the console of an answer as one line: names and values in turn.
 pub(crate) fn show_console(
     rt: &impl Print,
@@ -179,14 +210,42 @@ pub(crate) fn show_console(
     print!(rt; " SWITCHES {switches} STOPS {stops} ARMS {arms}")?;
     let (deck, behind) = (console.cards.of_deck, console.cards.of_data);
     let lines = console.lines;
-    print!(rt; " DECK {deck} DATA {behind} KEYS {lines}")?;
+    let part = part_text(alloc, console.part)?;
+    print!(rt; " DECK {deck} DATA {behind} KEYS {lines}{part}")?;
     let bad_cards = tally_text(alloc, &console.bad_cards)?;
     let bad_keys = tally_text(alloc, &console.bad_keys)?;
     println!(rt; " BAD CARDS {bad_cards} BAD KEYS {bad_keys}")
 }
 
+// Prints the other statement of a refusal: its number, the rule that it breaks itself, a hyphen for none, how many bytes its line has, and then
+// the line.
+fn show_other(rt: &impl Print, alloc: Global, other: &OtherStatement) -> io::Result<()> {
+    let (statement, bytes) = (other.statement, other.bytes);
+    print!(rt; "other|STATEMENT {statement} RULE ")?;
+    match other.rule {
+        Some(rule) => print!(rt; "{rule:?}")?,
+        None => print!(rt; "-")?,
+    }
+    println!(rt; " BYTES {bytes}")?;
+    println!(rt; "other line|{}", shown_line(alloc, &other.text)?)
+}
+
+// Prints the statement that stands at IR: its number and how many bytes its line has, and then the line.
+pub(crate) fn show_statement(
+    rt: &impl Print,
+    alloc: Global,
+    standing: &Option<StandingLine>,
+) -> io::Result<()> {
+    let Some(standing) = standing else {
+        return println!(rt; "statement|none");
+    };
+    let (statement, bytes) = (standing.statement, standing.bytes);
+    println!(rt; "statement|{statement} BYTES {bytes}")?;
+    println!(rt; "statement line|{}", shown_line(alloc, &standing.text)?)
+}
+
 // Prints the statement that a source was refused for: its number, its rule, the operand part that breaks it and how many bytes its line
-// has, and then the line.
+// has, and then the line; behind that the other statement that the refusal is about, where there is one.
 pub(crate) fn show_refusal(
     rt: &impl Print,
     alloc: Global,
@@ -202,5 +261,9 @@ pub(crate) fn show_refusal(
         None => print!(rt; "-")?,
     }
     println!(rt; " BYTES {bytes}")?;
-    println!(rt; "refused|{}", shown_line(alloc, &refused.text)?)
+    println!(rt; "refused|{}", shown_line(alloc, &refused.text)?)?;
+    match &refused.other {
+        Some(other) => show_other(rt, alloc, other),
+        None => Ok(()),
+    }
 }

@@ -1,8 +1,13 @@
 // A job: what a row says of it, and how it is done.
+ghost use Rattle.std.specs.Prelude.{IfOk};
+ghost use Rattle.outside_io.specs.World.{IsFresh};
+ghost use Rattle.outside_io.specs.Mem.{mem_world};
+
 use crate::answers::AnswerPart;
 use crate::files::{File, Files};
 use crate::lines::{RowLine, output_named};
 use crate::texts::{NotTaken, add_bytes};
+use finished_job::{Counting, Said, do_job};
 use ibm1620_cli::{Answer, ibm1620_answer};
 use outside_io::{MemHost, Unit};
 use std::alloc::{AllocError, Global};
@@ -33,6 +38,8 @@ pub(crate) struct Job {
     pub(crate) counted: Vec<Unit>,
     // The parts of the answer that are shown besides its status.
     pub(crate) asked: Vec<AnswerPart>,
+    // Whether the console is asked for where a message is said.
+    asks_console: bool,
     pub(crate) files: Files,
     // The number of the call that fails.
     pub(crate) failing: Option<u64>,
@@ -52,6 +59,7 @@ impl Job {
             shown: None,
             counted: Vec::new(alloc),
             asked: Vec::new(alloc),
+            asks_console: false,
             files: Files::new(alloc),
             failing: None,
             words: Vec::new(alloc),
@@ -98,6 +106,7 @@ impl Job {
             RowLine::Show(names) => self.shown = Some(outputs_named(self.alloc, names)?),
             RowLine::Count(names) => self.counted = outputs_named(self.alloc, names)?,
             RowLine::Answer(names) => self.asked = parts_named(self.alloc, names)?,
+            RowLine::AsksConsole => self.asks_console = true,
             RowLine::Quiet => self.way = Way::Quiet,
             RowLine::Turns => self.way = Way::Turns,
         }
@@ -135,12 +144,40 @@ impl Job {
     //
     // The error is want of memory for the host.
     pub(crate) fn done(&self, failing: Option<u64>) -> Result<(Answer, MemHost), AllocError> {
+        let mut host = self.host(failing)?;
+        let answer = ibm1620_answer(self.alloc, &self.words, &mut host);
+        Ok((answer, host))
+    }
+
+    // Does the whole job over the files, with all that lies around it: its code, and what is said of it.
+    //
+    // The error is want of memory for the host, or for what is said.
+    pub(crate) fn done_whole(&self) -> Result<(u8, Said), AllocError> {
+        let mut host = Counting::over(self.host(self.failing)?);
+        let mut said = Said::new(self.alloc);
+        let code = do_job(
+            self.alloc,
+            &self.words,
+            self.asks_console,
+            &mut host,
+            &mut said,
+        );
+        if said.tells() {
+            Ok((code, said))
+        } else {
+            Err(AllocError)
+        }
+    }
+
+    // A host with the files, the call of this number failing.
+    fn host(&self, failing: Option<u64>) -> Result<MemHost, AllocError>
+        ensures { IfOk result (λ host. IsFresh (mem_world host)) }
+    {
         let mut host = self.files.host(self.alloc, self.room as usize)?;
         if let Some(call) = failing {
             host.fail(call)?;
         }
-        let answer = ibm1620_answer(self.alloc, &self.words, &mut host);
-        Ok((answer, host))
+        Ok(host)
     }
 
     // Does what the words say over the files, by a host that shows nothing.

@@ -39,6 +39,8 @@ pub(crate) enum RowLine<'a> {
     Count(&'a str),
     // The parts of the answer that are shown besides its status.
     Answer(&'a str),
+    // The console is asked for.
+    AsksConsole,
     // The host shows nothing.
     Quiet,
     // Each call fails in turn.
@@ -60,6 +62,7 @@ impl<'a> RowLine<'a> {
             "count" => Some(RowLine::Count(text)),
             "object" | "sectors" | "quiet" | "turns" if !text.is_empty() => None,
             "answer" => Some(RowLine::Answer(text)),
+            "asks" if text == "console" => Some(RowLine::AsksConsole),
             "object" => Some(RowLine::Object),
             "sectors" => Some(RowLine::Sectors),
             "quiet" => Some(RowLine::Quiet),

@@ -1,5 +1,5 @@
 // What a row's job comes to, as it is shown.
-use crate::answers::{AnswerPart, show_console, show_refusal};
+use crate::answers::{AnswerPart, show_console, show_refusal, show_statement};
 use crate::files::Sector;
 use crate::jobs::{Job, Way};
 use crate::lines::OUTPUTS;
@@ -79,7 +79,22 @@ fn show_asked(rt: &impl Print, job: &Job, answer: &Answer) -> io::Result<()> {
     if job.asked.contains(&AnswerPart::Refusal) {
         show_refusal(rt, job.alloc, &answer.refusal)?;
     }
+    if job.asked.contains(&AnswerPart::Statement) {
+        show_statement(rt, job.alloc, &answer.statement)?;
+    }
     Ok(())
+}
+
+// The code of a job that ended so; where the row asks for what is said, that is printed, and the code is the one of the whole job.
+fn code_shown(rt: &impl Print, job: &Job, answer: &Answer) -> io::Result<u8> {
+    if !job.asked.contains(&AnswerPart::Said) {
+        return Ok(answer.status.code());
+    }
+    let (code, said) = job.done_whole()?;
+    for piece in said.pieces() {
+        show_text(rt, job.alloc, "said", piece)?;
+    }
+    Ok(code)
 }
 
 // Does a job and prints what it comes to, its status and code last: the host, where it is one in memory.
@@ -97,8 +112,9 @@ pub(crate) fn show(rt: &impl Print, job: &Job) -> io::Result<Option<MemHost>> {
         }
     };
     show_asked(rt, job, &answer)?;
+    let code = code_shown(rt, job, &answer)?;
     let status = answer.status;
     println!(rt; "status|{status:?}")?;
-    println!(rt; "code|{}\n", status.code())?;
+    println!(rt; "code|{code}\n")?;
     Ok(host)
 }

@@ -107,6 +107,7 @@ pub(crate) fn show_turns(rt: &impl Print, job: &Job) -> io::Result<(Answer, MemH
         status: Status::HostFault,
         console: None,
         refusal: None,
+        statement: None,
     };
     let mut calls = 0;
     for call in 1..MANY_CALLS {

@@ -1,0 +1,4 @@
+pub mod Pieces
+pub mod Said
+pub mod Lost
+pub mod Finished

@@ -1,0 +1,16 @@
+pub mod Escapes
+pub mod Languages
+pub mod Places
+pub mod Slips
+pub mod Lines
+pub mod Columns
+pub mod Marks
+pub mod Sheet
+pub mod Broken
+pub mod Hints
+pub mod Refusals
+pub mod Breaches
+pub mod Mistakes
+pub mod Commands
+pub mod Usage
+pub mod Problems
