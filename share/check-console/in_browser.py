@@ -183,6 +183,8 @@ def stops(checks, _, b, shots):
     b.click("end")
     b.wait("s.end && view.panel")
     checks.want("check 3", (b.text("lamp"), "CHECK 03 00450 STEPS 5" in b.text("next"), "no decimal digit" in b.text("next")), ("CHECK 03", True, True))
+    about = b.js("view.s.end.about = view.s.end.about || 'The check is about P.'; draw(); return view.s.end.about")
+    checks.want("the part that the check is about stands in the line of what comes next", about in b.text("next"), True)
     checks.want("nothing starts it again", b.js("return ['start', 'step'].map(id => document.getElementById(id).disabled)"), [True, True])
     b.open("deck", read("one-card", "deck.txt"))
     b.go(1)

@@ -3,13 +3,18 @@ same program behind a script that takes the line away. And how many runs of eith
 """
 
 import os
+import sys
 import tempfile
 import time
 from concurrent.futures import ThreadPoolExecutor
 from pathlib import Path
 
-from harness import Console, is_left_clean, program, run_console
+from harness import TOP, Console, is_left_clean, program, run_console
 from records import words_of
+
+sys.path.append(str(TOP / "share" / "console"))     # behind the folder of the checks, which has files of the same names
+
+from told import Part, about, parted
 
 COUNTING = """#!/bin/sh
 echo >> {counts}
@@ -20,9 +25,24 @@ echo >> {counts}
 unset IBM1620_CONSOLE
 {program} "$@" 2> said.err
 code=$?
-grep -v '^ibm1620: CONSOLE ' said.err >&2
+sed -e '/^ibm1620: statement [0-9]* stands at IR:$/{{ N; d; }}' -e '/^ibm1620: CONSOLE /d' said.err >&2
 exit $code
 """
+# The same with a statement in front of the line and a part of an instruction at its end, where the program says none.
+PARTED = """#!/bin/sh
+{program} "$@" 2> said.err
+code=$?
+awk '/^ibm1620: CONSOLE / && /CELLS 26/ && !/ PART / {{
+    print "ibm1620: it is about P: the field whose units stand at 00031, in the chain from 00018"
+    print "ibm1620: statement 2 stands at IR:"
+    print "ibm1620:            CONSOLE"
+    $0 = $0 " PART P AT 00031"
+}}
+{{ print }}' said.err >&2
+exit $code
+"""
+CHAIN = "410000000000260003J000000000000|"       # P is found at 00031, where a record mark stands in the place of a digit
+CONSOLE_LINE = "CONSOLE IR 00402 CELLS 210040000412 IR2 00000 ON 09,11 SWITCHES 01 STOPS IO ARMS 000,005,000,000 DECK 39 DATA 1 KEYS 0"
 SCRIPT = ["AT 2 SWITCH 1 ON", "AT 2 SWITCH 4 ON", "AT 3 IO STOP", "AT 4 SWITCH 1 OFF", "AT 5 FLIP 19000 0", "HALT OVERFLOW STOP", "HALT START"]
 
 # Two passes of a loop with a sum, a comparison, a branch and transmit, and a seek; then a halt, behind which the script has it go on.
@@ -65,9 +85,39 @@ def check(checks):
     with tempfile.TemporaryDirectory() as folder:
         told, silent = Counting(folder, "told", COUNTING), Counting(folder, "silent", WITHOUT)
         consoles = Console(program_path=str(told.path)), Console(program_path=str(silent.path))
+        readings(checks)
         steps(checks, consoles)
+        parts(checks, Counting(folder, "parted", PARTED))
         costs(checks, consoles, (told, silent), Path(folder, "out.html"))
         checks.want("nothing is left of either", [is_left_clean(console) for console in consoles], [True, True])
+
+
+def readings(checks):
+    """The line as the program says it: with a part or without, with a statement in front of it or without."""
+    for part, wanted in (("", None), (" PART INSTRUCTION AT 00014", Part("INSTRUCTION", 14, None, None)), (" PART P AT 00408", Part("P", 408, None, None)),
+                         (" PART Q AT 12345", Part("Q", 12345, None, None)), (" PART ACTION AT 00412 P 00400 Q 00412", Part("ACTION", 412, 400, 412)),
+                         (" PART ACTION AT - P 00400 Q -", Part("ACTION", None, 400, None))):
+        for front in ([], ["statement 7 stands at IR:", "     START A   SUM,ONE"], ["statement 12345 stands at IR:", ""]):
+            told, others = parted(["check 03", *front, CONSOLE_LINE + part, "line 1"])
+            checks.want(f"the line{part} behind {front}", (told and told.part, told and told.arms, others), (wanted, (0, 5, 0, 0), ["check 03", "line 1"]))
+    for bad in (" PART", " PART P", " PART P AT -", " PART INSTRUCTION AT 00014 P 00400", " PART ACTION AT 00412", " PART R AT 00412", " KEYS 0"):
+        checks.want(f"no line{bad}", parted([CONSOLE_LINE + bad]), (None, [CONSOLE_LINE + bad]))
+    sentences = [about(parted([CONSOLE_LINE + part])[0]) for part in (" PART Q AT 00413", " PART P AT 00500", " PART ACTION AT - P 00400 Q -")]
+    checks.want("a sentence for each part", sentences, [
+        "The check is about Q, by the digits whose units stand at 00413.",
+        "The check is about P, by the digits whose units stand at 00500, in the chain from 00408.",
+        "The check is about what the instruction does with P 00400."])
+
+
+def parts(checks, counted):
+    """A stop, by a program that says which part it is about: the page has a sentence for it, and a halt has none."""
+    console = Console(program_path=str(counted.path))
+    end = console.make("deck", CHAIN)["end"]
+    checks.want("the part that a check is about", [end["line"], end["about"]],
+                ["CHECK 03 00012 STEPS 2", "The check is about P, by the digits whose units stand at 00031, in the chain from 00018."])
+    checks.want("it is told once", [line for line in end["said"] if "it is about" in line or "stands at IR" in line or "CONSOLE" in line], [])
+    checks.want("a halt is about none", console.make("deck", "480000000000")["end"]["about"], "")
+    checks.want("nothing is left of a program that says parts", is_left_clean(console), True)
 
 
 def steps(checks, consoles):
@@ -84,15 +134,21 @@ def steps(checks, consoles):
 
 def same(checks, consoles, name, inputs, counts):
     told, silent = (console.make(**inputs) for console in consoles)
-    checks.want(f"{name}: all but the lights is told alike", told, silent)
+    checks.want(f"{name}: all but the lights is told alike", without_part(told), without_part(silent))
     with ThreadPoolExecutor(len(consoles)) as threads:
         shown = threads.map(lambda console: [(n, console.state(told, n), console.panel(told, n)) for n in counts if n <= told["end"]["n"]], consoles)
     found = [differing for (n, *of_told), (_, *of_silent) in zip(*shown) for differing in differences(n, *of_told, *of_silent)]
     checks.want(f"{name}: what the console's line says at each step, and what side runs say", found, [])
 
 
+def without_part(table):
+    """A table without the part that a check is about: the line alone says it."""
+    return dict(table, end=dict(table["end"], about="")) if table.get("end") else table
+
+
 def differences(n, state, panel, old_state, old_panel):
     """What differs at a count. Behind a stop no machine can be asked: there the line alone says how the lights are, and what is left."""
+    state, old_state = without_part(state), without_part(old_state)
     made = [(n, name, state[name], old_state[name]) for name in old_state if state[name] != old_state[name]]
     lights, old_lights = panel["lights"], old_panel["lights"]
     if lights["ir2"] is None or None in lights["arms"] or len(lights["on"]) != 11 or lights["why"]:

@@ -175,7 +175,7 @@ function drawDisk(s) {
 
 // The line of what comes next, or of how the run has ended.
 function nextLine(s, it) {
-  if (s.end) return s.end.line + (s.end.said.length ? "   " + s.end.said.join("; ") : "");
+  if (s.end) return [s.end.line, s.end.about, s.end.said.join("; ")].filter(text => text).join("   ");
   if (s.ir === null) return "Next: not known here";
   const part = (name, o) => !o ? "" : o.bad ? `, ${name}: ${o.bad}` : `, ${name} ${five(o.at)}` + (o.immediate ? " (in the instruction)" : o.chain.length ? ` (found at ${o.chain.map(five).join(", then ")})` : "");
   const statement = view.statementAt.get(s.ir), cells = it.cells ? `${it.cells.slice(0, 2)} ${it.cells.slice(2, 7)} ${it.cells.slice(7)}` : "";

@@ -23,7 +23,7 @@ function show(s) {
 
 function sayEnd() {
   const end = view.s.end, hint = end.kind === "HALT" ? engine.live ? "START or SIE goes on behind the halt." : "" : engine.live || end.kind === "CHECK" ? HINTS[end.kind] : "";
-  say(`${end.line}. ${end.said.length ? end.said.join("; ") + ". " : ""}${hint}`, end.kind === "CHECK" || end.kind === "JAM");
+  say(`${end.line}. ${end.about ? end.about + " " : ""}${end.said.length ? end.said.join("; ") + ". " : ""}${hint}`, end.kind === "CHECK" || end.kind === "JAM");
   if (end.kind === "NEED KEYS" && engine.live) $("keyline").focus();
   if (end.kind === "NEED CARDS" && engine.live) $("cardline").focus();
 }

@@ -11,6 +11,7 @@ import hashlib
 import re
 
 from signs import Refused, joined, lines_of, to_text
+from told import about
 
 Inputs = collections.namedtuple("Inputs", "kind text data keys script pack core limit")
 
@@ -29,9 +30,10 @@ def name_of(*parts):
 
 
 def for_page(said):
-    """What the program says of a run's end, without words for a command line: a page has no options, and its limit does not count the loading."""
+    """What the program says of a run's end, without words for a command line: a page has no options, and its limit does not count the loading; and
+    without what the page has by a sentence of its own, which part of an instruction a check is about."""
     made = [re.sub(r"^--(\w+): line (\d+) is", lambda found: f"line {found[2]} of the {UNITS.get(found[1], found[1])} is", line) for line in said]
-    return [line for line in made if "--" not in line and not line.startswith("the limit of")]
+    return [line for line in made if "--" not in line and not re.match(r"the limit of|it is about |P is \d", line)]
 
 
 class Run:
@@ -93,7 +95,7 @@ class Run:
         kind = to_text(found[1])
         steps = int(found[3]) if found[3] else None
         return {"line": text, "kind": kind if kind.startswith("NEED") else kind.split()[0], "at": int(found[2]) if found[2] else None, "steps": steps,
-                "n": None if steps is None else steps - self.loading, "said": for_page(done.said)}
+                "n": None if steps is None else steps - self.loading, "about": about(done.told), "said": for_page(done.said)}
 
     async def end(self):
         """How the run ends under its whole script, up to the limit."""
