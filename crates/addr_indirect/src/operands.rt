@@ -17,7 +17,6 @@ pub fn p_operand<const M: u32>(core: &Core<M>, ir: u32) -> Result<u32, Stop>
     ensures is { result ≡ p_operand core.now ir }
     ensures in_core { IfOk result (λ p. p < size M) }
 {
-    // For the check alone, which learns core's length from it: the compiler drops it.
     core.size_law();
     operand(core, ir + 6)
 }
@@ -33,7 +32,6 @@ pub fn q_operand<const M: u32>(core: &Core<M>, ir: u32) -> Result<u32, Stop>
     ensures is { result ≡ q_operand core.now ir }
     ensures in_core { IfOk result (λ q. q < size M) }
 {
-    // For the check alone, which learns core's length from it: the compiler drops it.
     core.size_law();
     operand(core, ir + 11)
 }

@@ -1,7 +1,7 @@
 -- A search within a word, by the cells of a word of ones.
 use Rattle.std.proofs.Common.{ℕ, ◌≡◌, ◌≢◌, ◌+◌, ◌-◌, ◌*◌, ◌<◌, ◌≤◌, ◌⊎◌, Bool, true, false, inl, inr, List, get_or, Some, None, refl, sym, ◌∙◌, ap, arith, bit_and, bit_or}
 use Rattle.std.proofs.lemmas.Bool.{cases_lt}
-use Rattle.std.proofs.lemmas.Nat.{or_comm, le_or_l}
+use Rattle.std.proofs.lemmas.Nat.{or_comm, le_or_l, and_assoc, and_comm, and_or_self}
 use Rattle.digit_core.specs.Packed.{six}
 use Rattle.digit_core.specs.Search.{first_up, first_down, one_if}
 use Rattle.digit_core.specs.Within.{IsLowest, IsHighest}
@@ -87,4 +87,24 @@ none_more p cells i k all w ones read each before none j below =
           let h : j - 10 * k < 10 = omega arith in
           let at : 10 * (i + k) + (j - 10 * k) ≡ 10 * i + j = omega arith in
           ap (λ x. p (get_or cells x 0)) (sym at) ∙ ap p (sym (read (j - 10 * k) h)) ∙ no_one ones (j - 10 * k) (p (six w (j - 10 * k))) (each (j - 10 * k) h) (or_none ones all (or_comm ones all ∙ none))
+    ]
+
+-- the same, where only the bits of a mask say it
+or_none_under : (x y mask : ℕ) → bit_and (bit_or x y) mask ≡ 0 → bit_and y mask ≡ 0
+or_none_under x y mask none =
+    let self : bit_and (bit_or x y) y ≡ y = and_or_self y x in
+    ap (λ z. bit_and z mask) (sym self) ∙ ap (λ z. bit_and z mask) (and_comm (bit_or x y) y) ∙ and_assoc mask y (bit_or x y) ∙ ap (λ z. bit_and y z) none ∙ and_comm y 0
+
+pub none_more_under : (p : ℕ → Bool) (mask : ℕ) (cells : List ℕ) (i k all w x : ℕ)
+    → ((j : ℕ) → j < 10 → six w j ≡ get_or cells (10 * (i + k) + j) 0)
+    → (bit_and x mask ≡ 0 → (j : ℕ) → j < 10 → p (six w j) ≡ false)
+    → (bit_and all mask ≡ 0 → (j : ℕ) → j < 10 * k → p (get_or cells (10 * i + j) 0) ≡ false)
+    → bit_and (bit_or all x) mask ≡ 0 → (j : ℕ) → j < 10 * (k + 1) → p (get_or cells (10 * i + j) 0) ≡ false
+none_more_under p mask cells i k all w x read each before none j below =
+    elim (cases_lt j (10 * k)) [
+      | inl l ↦ before (or_none_under x all mask (ap (λ z. bit_and z mask) (or_comm x all) ∙ none)) j l
+      | inr g ↦
+          let h : j - 10 * k < 10 = omega arith in
+          let at : 10 * (i + k) + (j - 10 * k) ≡ 10 * i + j = omega arith in
+          ap (λ x. p (get_or cells x 0)) (sym at) ∙ ap p (sym (read (j - 10 * k) h)) ∙ each (or_none_under all x mask none) (j - 10 * k) h
     ]

@@ -93,7 +93,7 @@ module _ (ws : List ℕ) (i w : ℕ) (inside : i < length ws) where
       ])
 
 -- a word is the sum of its cells
-ten_sixes : (w : ℕ) → w < 2 ^ 60 →
+pub ten_sixes : (w : ℕ) → w < 2 ^ 60 →
     0 + six w 0 * 64 ^ 0 + six w 1 * 64 ^ 1 + six w 2 * 64 ^ 2 + six w 3 * 64 ^ 3 + six w 4 * 64 ^ 4 + six w 5 * 64 ^ 5 + six w 6 * 64 ^ 6 + six w 7 * 64 ^ 7 + six w 8 * 64 ^ 8 + six w 9 * 64 ^ 9 ≡ w
 ten_sixes w below = omega arith
 

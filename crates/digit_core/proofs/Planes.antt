@@ -241,7 +241,7 @@ is_mark w j h =
     named_six j _ lowest (six_lowest j h) ∙ bit_of_and j _ _ _ _ both neither ∙ each
 
 -- the bits 8 and 2
-abbrev pub eights_with_two : ℕ → ℕ
+abbrev eights_with_two : ℕ → ℕ
 eights_with_two w = bit_and (bit_and w (w / 2 ^ 2) / 2 ^ 1) lowest
 
 both_bit : ℕ → ℕ
@@ -251,13 +251,23 @@ each_both : (c : ℕ) → c < 64 → both_bit c ≡ one_if (has_eight_and_two c)
 unfolding both_bit
 each_both c below = same_below both_bit (λ c. one_if (has_eight_and_two c)) 64 c 0 refl below
 
-pub is_both : (w j : ℕ) → j < 10 → six (eights_with_two w) j ≡ one_if (has_eight_and_two (six w j))
+is_both : (w j : ℕ) → j < 10 → six (eights_with_two w) j ≡ one_if (has_eight_and_two (six w j))
 unfolding both_bit
 is_both w j h =
     let both : lowest_bit j (bit_and w (w / 2 ^ 2) / 2 ^ 1) ≡ bit_and (bit (six w j) 1) (bit (six w j) 3) =
     ap (lowest_bit j) (and_shr w (w / 2 ^ 2) 1) ∙ bit_of_and j _ _ _ _ (b1 w j h) (ap (lowest_bit j) (shr-shr w 2 1) ∙ b3 w j h) in
     let each : both_bit (six w j) ≡ one_if (has_eight_and_two (six w j)) = each_both (six w j) (six_small w j) in
     named_six j _ lowest (six_lowest j h) ∙ both ∙ each
+
+-- where bit 2 of no cell is left, none has both
+abbrev pub twos : ℕ
+twos = 0x0082082082082082
+
+pub none_both : (w j : ℕ) → j < 10 → bit_and (bit_and w (w / 2 ^ 2)) twos ≡ 0 → has_eight_and_two (six w j) ≡ false
+none_both w j h none =
+    let x = bit_and w (w / 2 ^ 2) in
+    let z : eights_with_two w ≡ 0 = sym (and_shr x twos 1) ∙ ap (λ y. y / 2 ^ 1) none in
+    no_one (eights_with_two w) j (has_eight_and_two (six w j)) (is_both w j h) z
 
 -- a cell without these bits is no record mark
 pub no_mark_without : (c : ℕ) → has_eight_and_two c ≡ false → has_mark c ≡ false

@@ -9,7 +9,8 @@ use lib.Count.{ones}
 use Rattle.digit_core.specs.declared.Digit.{Digit}
 use Rattle.digit_core.specs.Cell.{is_value, value_in, IsGood, cell}
 use Rattle.digit_core.specs.Copied.{core_after_copy}
-use Rattle.digit_core.specs.Packed.{cells_of, IsPacked}
+use Rattle.digit_core.specs.Packed.{cells_of, IsPacked, IsKnown}
+use Rattle.digit_core.specs.declared.standard_tables.AddTable.{AddTable}
 use Rattle.digit_core.specs.Mixed.{core_mixture}
 use Rattle.digit_core.specs.Search.{is_bad, first_bad, IsSound}
 use Rattle.digit_core.specs.Within.{AreGoodUpTo}
@@ -114,7 +115,8 @@ module _ (cells : List ℕ) (sound : IsSound cells) where
       ])
 
 -- the words of a core once others stand in their place
-pub repacked : (m n : ℕ) (ws new : List ℕ) (before sound : Bool) → IsPacked m ws before → length new ≡ n → length new ≡ length ws → All (λ w. w < 2 ^ 60) new
-    → (sound ≡ true → IsSound (cells_of new)) → IsPacked m (take n (new ++ drop (length new) ws)) sound
-repacked m n ws new before sound packed taken long sixty_bits is_sound =
-    rw (all_taken new ws n taken) (record { is_size = packed.is_size; is_length = long ∙ packed.is_length; sixty_bits = sixty_bits; is_sound = is_sound })
+pub repacked : (m n : ℕ) (ws new : List ℕ) (before sound : Bool) (seen table : AddTable) → IsPacked m ws before seen → length new ≡ n → length new ≡ length ws → All (λ w. w < 2 ^ 60) new
+    → (sound ≡ true → IsSound (cells_of new)) → IsKnown table (cells_of new) → IsPacked m (take n (new ++ drop (length new) ws)) sound table
+repacked m n ws new before sound seen table packed taken long sixty_bits is_sound is_known =
+    rw (all_taken new ws n taken)
+    (record { is_size = packed.is_size; is_length = long ∙ packed.is_length; sixty_bits = sixty_bits; is_sound = is_sound; is_known = is_known })

@@ -1,8 +1,12 @@
 -- Cells in words: ten cells of six bits to a word, from its lowest bits upwards.
-use Rattle.std.specs.Prelude.{ℕ, Bool, true, ◌≡◌, ◌<◌, ◌+◌, ◌-◌, ◌*◌, ◌/◌, ◌%◌, ◌^◌, List, length, map, sum, slice_index}
+use Rattle.std.specs.Prelude.{ℕ, Bool, true, ⊤, ◌≡◌, ◌<◌, ◌+◌, ◌-◌, ◌*◌, ◌/◌, ◌%◌, ◌^◌, List, length, map, sum, slice_index, nat_lt, ◌&&◌, if◌then◌else◌}
 use Rattle.std.specs.List.{All, range_with_len}
 use Rattle.digit_core.specs.Size.{IsSize}
 use Rattle.digit_core.specs.Search.{IsSound}
+use Rattle.digit_core.specs.Standard.{HasAddTable}
+use Rattle.digit_core.specs.declared.standard_tables.AddTable.{AddTable}
+use Rattle.digit_core.specs.declared.standard_tables.AddTable.TheVariants.{Unseen, Standard, Other}
+use Rattle.digit_core.specs.declared.standard_tables.TheConstants.{ADD_TABLE, ADD_TABLE_END}
 use Rattle.digit_core.specs.declared.TheConstants.{MODULE_WORDS}
 
 -- six bits of a word
@@ -25,12 +29,24 @@ cells_of ws = map (cell_in ws) (range_with_len 0 (10 * length ws))
 abbrev pub ten_across : ℕ → ℕ → ℕ → ℕ
 ten_across low high j = low / 2 ^ (6 * j) + high * 2 ^ (60 - 6 * j) % 2 ^ 64 % 2 ^ 60
 
--- the words of a core of size m: the top four bits of each are 0, and where the core is marked as sound each cell holds a digit
-pub record IsPacked (m : ℕ) (ws : List ℕ) (sound : Bool) : Type 0 where
+-- what is known of the add table is so
+unfoldable pub IsKnown : AddTable → List ℕ → Type 0
+IsKnown Unseen cells = ⊤
+IsKnown Standard cells = HasAddTable cells
+IsKnown Other cells = HasAddTable cells → ⊥
+
+-- what is known of it once at most ten cells have been stored from a on: nothing, where they may be its own
+abbrev pub note_store : AddTable → ℕ → AddTable
+note_store table a = if nat_lt (ADD_TABLE - 10) a && nat_lt a ADD_TABLE_END then Unseen else table
+
+-- the words of a core of size m: the top four bits of each are 0, where the core is marked as sound each cell holds a digit, and
+-- the add table is as it is known
+pub record IsPacked (m : ℕ) (ws : List ℕ) (sound : Bool) (table : AddTable) : Type 0 where
   pub is_size : IsSize m
   pub is_length : length ws ≡ m * MODULE_WORDS
   pub sixty_bits : All (λ w. w < 2 ^ 60) ws
   pub is_sound : sound ≡ true → IsSound (cells_of ws)
+  pub is_known : IsKnown table (cells_of ws)
 
 -- a word with its six bits number j replaced
 unfoldable pub with_six : ℕ → ℕ → ℕ → ℕ

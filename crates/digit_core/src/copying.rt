@@ -1,4 +1,6 @@
 //! Copies of many cells, by whole words where that serves.
+//!
+//! Source: this project's own.
 
 ghost use Rattle.std.specs.Prelude.{◌≡◌, ℕ, ◌+◌, ◌-◌, ◌*◌, ◌/◌, ◌%◌, ◌^◌, ◌<◌, ◌≤◌, ◌⊎◌, slice_index, length, All, true};
 ghost use Rattle.digit_core.specs.Size.{size};
@@ -10,6 +12,7 @@ ghost use Rattle.digit_core.specs.Copied.{core_after_copy, cells_after_copy};
 ghost use Rattle.digit_core.specs.Written.{core_with_word};
 
 use crate::Core;
+use crate::standard_tables::AddTable;
 use crate::words::{are_good, are_good_at, ones_below, with_part};
 
 // Eight unflagged zeros above two cells.
@@ -19,7 +22,6 @@ const EIGHT_ZEROS: u64 = 0x0820_8208_2082_0000;
 ///
 /// `j` is below 10. `low` is a word of core, whose top four bits are 0; `high` is the next word, of which only the lowest `j` cells are
 /// looked at.
-/// Source: this project's own.
 #[inline]
 pub fn ten_across(low: u64, high: u64, j: u32) -> u64
     requires place { j < 10 }
@@ -130,21 +132,22 @@ fn put_ten(words: &mut [u64], i: u32, j: u32, w: u64)
     put_part(words, i + 1, 0, j, w >> (6 * low));
 }
 
-// Replaces at most ten cells from `a` upwards.
+// Replaces some cells from `a` upwards, at most ten.
 #[inline]
 fn put_few(words: &mut [u64], a: u32, n: u32, w: u64)
+    requires some { 1 ≤ n }
     requires few { n ≤ 10 }
+    requires near { a < 65536 }
     requires room { a + n ≤ 10 * length words.old }
     requires sixty_bits { All (λ w. w < 2 ^ 60) words.old }
     ensures cells { cells_of words.new ≡ core_with_word (cells_of words.old) a n w }
     ensures length { length words.new ≡ length words.old }
     ensures sixty_bits { All (λ w. w < 2 ^ 60) words.new }
 {
-    if n == 0 {
-        return;
-    }
+    // An address of 16 bits is divided by one multiplication.
+    let a = a as u16;
     let i = (a / 10) as usize;
-    let j = a % 10;
+    let j = u32::from(a % 10);
     if j + n <= 10 {
         put_part(words, i, j, n, w);
     } else {
@@ -158,7 +161,6 @@ impl<const M: u32> Core<M> {
     /// Copies the `n` cells that end at `q`, as they stand, to the `n` cells that end at `p`, good or not. All other cells stay.
     ///
     /// `p` and `q` are below the size of core. `n` is 1 or more, and no more than `p + 1` and `q + 1`.
-    /// Source: this project's own.
     pub fn copy_cells(&mut self, p: u32, q: u32, n: u32)
         requires p { p < size M }
         requires q { q < size M }
@@ -249,6 +251,7 @@ impl<const M: u32> Core<M> {
         requires room { from + 10 * count ≤ size M }
         ensures { self.new ≡ core_after_copy self.old (10 * i) from (10 * count) }
     {
+        self.add_table = AddTable::Unseen;
         let s = (from / 10) as usize;
         if from % 10 == 0 {
             whole_up(&mut self.words, i as usize, s, count as usize);
@@ -263,6 +266,7 @@ impl<const M: u32> Core<M> {
         requires room { 10 * i + 10 * count ≤ size M }
         ensures { self.new ≡ core_after_copy self.old (10 * i) from (10 * count) }
     {
+        self.add_table = AddTable::Unseen;
         let s = (from / 10) as usize;
         if from % 10 == 0 {
             whole_down(&mut self.words, i as usize, s, count as usize);
@@ -286,7 +290,6 @@ impl<const M: u32> Core<M> {
     /// The word of the ten cells from `10 * i` upwards.
     ///
     /// `i` is below the number of words.
-    /// Source: this project's own.
     #[inline]
     pub fn word(&self, i: u32) -> u64
         requires { i < M * 2000 }
@@ -309,7 +312,6 @@ impl<const M: u32> Core<M> {
     /// The ten cells from `a` upwards as one word, from its lowest bits upwards.
     ///
     /// All ten lie in core.
-    /// Source: this project's own.
     #[inline]
     pub fn ten(&self, a: u32) -> u64
         requires { a + 10 ≤ size M }
@@ -330,7 +332,6 @@ impl<const M: u32> Core<M> {
     /// The ten cells from cell number `j` of word number `i` upwards, as one word, from its lowest bits upwards.
     ///
     /// `j` is below 10, and all ten lie in core. Of places ten apart `i` rises by one and `j` stays.
-    /// Source: this project's own.
     #[inline(always)]
     pub fn ten_of(&self, i: u32, j: u32) -> u64
         requires place { j < 10 }
@@ -347,19 +348,19 @@ impl<const M: u32> Core<M> {
     /// Replaces the ten cells from cell number `j` of word number `i` upwards by those of a word, good or not. All other cells stay.
     ///
     /// `j` is below 10, and the ten cells lie in core. Of places ten apart `i` rises by one and `j` stays.
-    /// Source: this project's own.
     pub fn put_ten_of(&mut self, i: u32, j: u32, w: u64)
         requires place { j < 10 }
         requires room { 10 * i + j + 10 ≤ size M }
         ensures { self.new ≡ core_with_word self.old (10 * i + j) 10 w }
     {
-        self.replace_ten(i, j, w, are_good(w));
+        self.sound = self.sound && are_good(w);
+        self.add_table = AddTable::Unseen;
+        put_ten(&mut self.words, i, j, w);
     }
 
     /// The same as `put_ten_of`, for a word that is known to hold digits: it isn't looked at again.
     ///
     /// Each cell of the word holds a digit, unless a cell of core holds none.
-    /// Source: this project's own.
     #[inline(always)]
     pub fn put_ten_digits_of(&mut self, i: u32, j: u32, w: u64)
         requires place { j < 10 }
@@ -367,25 +368,13 @@ impl<const M: u32> Core<M> {
         requires sound { IsSound self.old → AreGoodUpTo w 10 }
         ensures { self.new ≡ core_with_word self.old (10 * i + j) 10 w }
     {
-        self.replace_ten(i, j, w, true);
-    }
-
-    // The same: where `good` is set the cells of the word are as good as those of core.
-    #[inline(always)]
-    fn replace_ten(&mut self, i: u32, j: u32, w: u64, good: bool)
-        requires place { j < 10 }
-        requires room { 10 * i + j + 10 ≤ size M }
-        requires good { good ≡ true → IsSound self.old → AreGoodUpTo w 10 }
-        ensures { self.new ≡ core_with_word self.old (10 * i + j) 10 w }
-    {
-        self.sound = self.sound && good;
+        self.add_table = AddTable::Unseen;
         put_ten(&mut self.words, i, j, w);
     }
 
     /// The twelve cells from `a` upwards as two words: the lower ten, and the others with unflagged zeros above them.
     ///
     /// `a` is even, and all twelve lie in core.
-    /// Source: this project's own.
     #[inline]
     pub fn twelve(&self, a: u32) -> (u64, u64)
         requires even { a % 2 ≡ 0 }
@@ -406,37 +395,50 @@ impl<const M: u32> Core<M> {
     /// Replaces the `n` cells from `a` upwards by the lowest `n` cells of a word, good or not. All other cells stay.
     ///
     /// `n` is at most 10, and the cells lie in core.
-    /// Source: this project's own.
     pub fn put_cells(&mut self, a: u32, n: u32, w: u64)
         requires few { n ≤ 10 }
         requires room { a + n ≤ size M }
         ensures { self.new ≡ core_with_word self.old a n w }
     {
-        self.replace_few(a, n, w, are_good_at(w, ones_below(n)));
+        self.size_law();
+        if n == 0 {
+            return;
+        }
+        self.sound = self.sound && are_good_at(w, ones_below(n));
+        self.add_table = AddTable::Unseen;
+        put_few(&mut self.words, a, n, w);
     }
 
     /// The same as `put_cells`, for cells that are known to hold digits: they aren't looked at again.
     ///
     /// Each of the lowest `n` cells of the word holds a digit, unless a cell of core holds none.
-    /// Source: this project's own.
     pub fn put_digits(&mut self, a: u32, n: u32, w: u64)
         requires few { n ≤ 10 }
         requires room { a + n ≤ size M }
         requires sound { IsSound self.old → AreGoodUpTo w n }
         ensures { self.new ≡ core_with_word self.old a n w }
     {
-        self.replace_few(a, n, w, true);
+        self.size_law();
+        if n == 0 {
+            return;
+        }
+        self.add_table = AddTable::Unseen;
+        put_few(&mut self.words, a, n, w);
     }
 
-    // The same: where `good` is set the cells of the word are as good as those of core.
-    #[inline(always)]
-    fn replace_few(&mut self, a: u32, n: u32, w: u64, good: bool)
+    /// The same as `put_digits`, for a field or a record that is stored at once: what `find_add_table` found stays known unless it may be
+    /// part of the add table.
+    ///
+    /// `n` is 1 to 10.
+    pub fn put_field(&mut self, a: u32, n: u32, w: u64)
+        requires some { 1 ≤ n }
         requires few { n ≤ 10 }
         requires room { a + n ≤ size M }
-        requires good { good ≡ true → IsSound self.old → AreGoodUpTo w n }
+        requires sound { IsSound self.old → AreGoodUpTo w n }
         ensures { self.new ≡ core_with_word self.old a n w }
     {
-        self.sound = self.sound && good;
+        self.size_law();
+        self.add_table.note_store(a);
         put_few(&mut self.words, a, n, w);
     }
 }

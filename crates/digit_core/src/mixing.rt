@@ -1,10 +1,13 @@
 //! Two cores side by side: one becomes the other, or takes some of its words, and what they differ in.
+//!
+//! Source: this project's own.
 
 ghost use Rattle.std.specs.Prelude.{◌≡◌, ℕ, ◌*◌, ◌^◌, ◌<◌, ◌≤◌, ◌+◌, length, slice_index, All, List, true};
 ghost use Rattle.digit_core.specs.Packed.{cells_of};
 ghost use Rattle.digit_core.specs.Mixed.{AgreeOutside, core_mixture};
 
 use crate::Core;
+use crate::standard_tables::AddTable;
 
 // How many words are compared at a time.
 const AT_A_TIME: usize = 64;
@@ -73,32 +76,30 @@ fn same_back(words: &[u64], others: &[u64], least: usize) -> usize
 
 impl<const M: u32> Core<M> {
     /// Copies all cells of another core, good or not.
-    ///
-    /// Source: this project's own.
     pub fn copy_from(&mut self, from: &Core<M>)
         ensures { self.new ≡ from.now }
     {
         self.words.copy_from_slice(&from.words);
         self.sound = from.sound;
+        self.add_table = from.add_table;
     }
 
     /// Copies the words from number `i` on that are below number `end` from another core, good or not. All other cells stay.
     ///
     /// `i` is no more than `end`, and `end` no more than the number of words.
-    /// Source: this project's own.
     pub fn copy_words(&mut self, from: &Core<M>, i: u32, end: u32)
         requires order { i ≤ end }
         requires room { end ≤ M * 2000 }
         ensures { self.new ≡ core_mixture self.old from.now (10 * i) (10 * end) }
     {
         self.sound = self.sound && from.sound;
+        self.add_table = AddTable::Unseen;
         copy_between(&mut self.words, &from.words, i as usize, end as usize);
     }
 
     /// The words that differ from those of another core lie between two numbers: from the first on, and below the second.
     ///
     /// Where no word differs, both are the same number.
-    /// Source: this project's own.
     pub fn changed_words(&self, other: &Core<M>) -> (u32, u32)
         ensures order { result.0 ≤ result.1 }
         ensures room { result.1 ≤ M * 2000 }

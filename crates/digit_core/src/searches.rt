@@ -1,4 +1,6 @@
 //! Searches over the cells, by whole words, and for flags and record marks by eight of them at once where none is found.
+//!
+//! Source: this project's own.
 
 ghost use Rattle.std.specs.Prelude.{◌≡◌, ◌+◌, ◌-◌, ◌*◌, ◌<◌, ◌≤◌, ℕ, All, false};
 ghost use Rattle.digit_core.specs.Size.{size};
@@ -6,14 +8,13 @@ ghost use Rattle.digit_core.specs.Search.{has_mark, is_bad, flag_below, mark_abo
 ghost use Rattle.digit_core.specs.Search.{NonePasses, AgreeUp, AgreeDown, first_up_words, first_down_words};
 ghost use Rattle.digit_core.specs.Cell.{has_flag};
 
-use crate::words::{bads, eights_with_two, flags, highest, lowest, marks, ones_between};
+use crate::words::{TWOS, bads, flags, highest, lowest, marks, ones_between, twos_with_eight};
 use crate::{Core, MODULE_WORDS};
 
 impl<const M: u32> Core<M> {
     /// The greatest position below `a` whose cell has a flag, whether it is good or not; `None` where there is none.
     ///
     /// `a` is below the size of core.
-    /// Source: this project's own.
     pub fn flag_below(&self, a: u32) -> Option<u32>
         requires { a < size M }
         ensures { result ≡ flag_below self.now a }
@@ -27,7 +28,6 @@ impl<const M: u32> Core<M> {
     /// The least position from `a` on whose cell is a record mark, flagged or not; `None` where there is none.
     ///
     /// `a` is below the size of core.
-    /// Source: this project's own.
     pub fn mark_above(&self, a: u32) -> Option<u32>
         requires { a < size M }
         ensures { result ≡ mark_above self.now a }
@@ -42,7 +42,6 @@ impl<const M: u32> Core<M> {
     /// The first cell on the way from `a` to `b`, both included, that holds no digit; `None` where there is none.
     ///
     /// `a` and `b` are below the size of core. Where `a` is above `b` the way goes down. No cell's number is 64 or more.
-    /// Source: this project's own.
     pub fn first_bad(&self, a: u32, b: u32) -> Option<u32>
         requires a { a < size M }
         requires b { b < size M }
@@ -190,10 +189,10 @@ impl<const M: u32> Core<M> {
         let mut all = 0;
         let mut k = 0;
         while k < 8 {
-            all |= eights_with_two(self.word_at(first + k));
+            all |= twos_with_eight(self.word_at(first + k));
             k += 1;
         }
-        all != 0
+        all & TWOS != 0
     }
 
     // The highest flag in the words below word `i`, downwards to word `end`.

@@ -92,13 +92,15 @@ pub(crate) fn marks(w: u64) -> u64
     (both >> 1) & (either ^ ONES) & ONES
 }
 
-// A word with 1 in each cell that has both 8 and 2, as each record mark does, and 0 in the others.
+// The bit 2 of each of the ten cells.
+pub(crate) const TWOS: u64 = 0x0082_0820_8208_2082;
+
+// A word that has bit 2 of each cell with both 8 and 2, as a record mark has them, and of no other. What it has beside these bits says nothing.
 #[inline]
-pub(crate) fn eights_with_two(w: u64) -> u64
-    ensures { (j : ℕ) → j < 10 → six result j ≡ one_if (has_eight_and_two (six w j)) }
+pub(crate) fn twos_with_eight(w: u64) -> u64
+    ensures { bit_and result TWOS ≡ 0 → (j : ℕ) → j < 10 → has_eight_and_two (six w j) ≡ false }
 {
-    let both = w & (w >> 2);
-    (both >> 1) & ONES
+    w & (w >> 2)
 }
 
 // At the lowest bit of each cell: the parity of its bits 1, 2 and 4. Three above it: that of its bits 8, F and C.

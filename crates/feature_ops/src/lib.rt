@@ -5,6 +5,8 @@
 //! Each works one digit after another, so that what is left where the two lie over each other is decided digit by digit. Ten digits or
 //! five are taken at a time, and so are the last of a field, and once so many that the next ones fill whole words, where they are good
 //! and the two lie apart, which leaves the same.
+//!
+//! Source: this project's own.
 #![tactic(auto)]
 
 ghost use Rattle.std.specs.Prelude.{◌≡◌, ℕ, ◌+◌, ◌*◌, ◌<◌, ◌≤◌, ◌%◌, List};
@@ -20,13 +22,9 @@ use digit_core::{Core, Digit};
 use fives::{are_still_apart, next_stripped, next_ten, rest_of_word, turn_filled};
 
 /// The zone of a number's digit.
-///
-/// Source: this project's own.
 pub const NUMBER_ZONE: u8 = 7;
 
 /// The zone at the units of a negative number.
-///
-/// Source: this project's own.
 pub const NEGATIVE_ZONE: u8 = 5;
 
 /// Moves the flag of the digit at `q` to the one at `p`: the instruction MF.
@@ -34,7 +32,6 @@ pub const NEGATIVE_ZONE: u8 = 5;
 /// The digit at `p` gets a flag where the one at `q` has one, and loses its own where it has none. Then the one at `q` loses its flag.
 /// `p` and `q` are below the size of core. Both values and all other cells stay.
 /// Stops: those of `read_at` at `q`, then at `p`; core then stays.
-/// Source: this project's own.
 pub fn move_flag<const M: u32>(core: &mut Core<M>, p: u32, q: u32) -> Result<(), Stop>
     requires p { p < size M }
     requires q { q < size M }
@@ -65,7 +62,6 @@ pub fn move_flag<const M: u32>(core: &mut Core<M>, p: u32, q: u32) -> Result<(),
 /// so. It ends with its first flagged digit that is not the units. `p` and `q` are below the size of core, and `p` is odd.
 /// Stops: those of `read_at` at the zone of P's units; then in each cycle 2 where P's or Q's position would go below 00000, then those
 /// of `read_at` at P's position, then at Q's; the digits stored before stay.
-/// Source: this project's own.
 #[inline(never)]
 pub fn strip<const M: u32>(core: &mut Core<M>, p: u32, q: u32) -> Result<(), Stop>
     requires p { p < size M }
@@ -130,7 +126,6 @@ fn strip_digits<const M: u32>(core: &mut Core<M>, pairs: u32, left: u32) -> Resu
 /// Each digit is stored without its flag, and its zone below it: 7, but 5 at the units where these have a flag. The field ends with its
 /// first flagged digit that is not the units. `p` and `q` are below the size of core, and `p` is odd.
 /// Stops: 2 where P's or Q's position would go below 00000, then those of `read_at` at Q's position; the digits stored before stay.
-/// Source: this project's own.
 #[inline(never)]
 pub fn fill<const M: u32>(core: &mut Core<M>, p: u32, q: u32) -> Result<(), Stop>
     requires p { p < size M }

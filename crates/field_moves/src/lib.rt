@@ -69,7 +69,7 @@ fn short_field<const M: u32>(core: &mut Core<M>, p: u32, q: u32) -> bool
     if n > p + 1 || !reads_first_down(p, q, n) || !are_good_at(w, ones_from(low)) {
         return false;
     }
-    core.put_digits(p + 1 - n, n, w >> (6 * low));
+    core.put_field(p + 1 - n, n, w >> (6 * low));
     true
 }
 
@@ -194,7 +194,7 @@ fn short_record<const M: u32>(core: &mut Core<M>, p: u32, q: u32) -> bool
     if n > size - p || !reads_first_up(p, q, n) || !are_good_at(w, ones_below(n)) {
         return false;
     }
-    core.put_digits(p, n, w);
+    core.put_field(p, n, w);
     true
 }
 

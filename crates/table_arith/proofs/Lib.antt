@@ -15,4 +15,3 @@ pub mod NumberSums
 pub mod WordNumbers
 pub mod WordCells
 pub mod FieldWords
-pub mod Rows

@@ -1,13 +1,8 @@
--- Digits and numbers: what a number says of its digits, and what the words of the add table say of the table.
-use Rattle.std.proofs.Common.{ℕ, zero, suc, ◌≡◌, ◌+◌, ◌-◌, ◌*◌, ◌/◌, ◌%◌, ◌^◌, ◌<◌, ◌≤◌, List, [], ◌∷◌, ◌++◌, length, get_or, refl, sym, ◌∙◌, ap, arith}
+-- Digits and numbers: what a number says of its digits.
+use Rattle.std.proofs.Common.{ℕ, zero, suc, ◌≡◌, ◌+◌, ◌*◌, ◌/◌, ◌%◌, ◌^◌, ◌<◌, ◌≤◌, List, [], ◌∷◌, ◌++◌, length, get_or, sym, ◌∙◌, ap, arith}
 use Rattle.std.proofs.lemmas.List.FromFn.{map-range_with_len_more, get_or-map-range_with_len, length-map-range_with_len}
 use Rattle.std.proofs.Math.Nat.{pow-succ', zero-div, div-div-eq-div-mul}
-use lib.Count.{ones}
-use Rattle.digit_core.specs.Cell.{cell}
-use Rattle.digit_core.specs.Standard.{standard_digit}
-use Rattle.digit_core.specs.Packed.{six}
-use Rattle.digit_core.proofs.Below.{same_below}
-use Rattle.table_arith.specs.Values.{value, IsStandard}
+use Rattle.table_arith.specs.Values.{value}
 use Rattle.table_arith.specs.Numbers.{value_above_units, digits_at}
 use Rattle.table_arith.proofs.LongAddition.{AreDecimal, above_decimal}
 
@@ -65,29 +60,3 @@ ten_more x i is =
 pub value_one : (core : List ℕ) (p : ℕ) → value (digits_at core p 1) ≡ value_above_units core p 0
 unfolding value digits_at
 value_one core p = omega arith
-
--- the rows of the add table
-abbrev pub rows : List ℕ
-rows = 0xa481e69448c2060 ∷ 0x4292079a5123081 ∷ 0xc50a481e69448c2 ∷ 0xcb14292079a5123 ∷ 0x4f2c50a481e6944 ∷ 0xd13cb14292079a5 ∷ 0x5744f2c50a481e6 ∷ 0x595d13cb1429207 ∷ 0xdd65744f2c50a48 ∷ 0xe37595d13cb1429 ∷ []
-
-abbrev row_cell : ℕ → ℕ
-row_cell k = six (get_or rows (k / 10) 0) (k % 10)
-
-abbrev table_cell : ℕ → ℕ
-table_cell k = cell (standard_digit (300 + k))
-
-each_cell : (k : ℕ) → k < 100 → row_cell k ≡ table_cell k
-unfolding cell standard_digit ones
-each_cell k below = same_below row_cell table_cell 100 k 0 refl below
-
--- a core with these rows has the standard table
-pub standard_from : (core : List ℕ) → 400 ≤ length core → ((x j : ℕ) → x < 10 → j < 10 → get_or core (300 + 10 * x + j) 0 ≡ six (get_or rows x 0) j) → IsStandard core
-standard_from core inside cells = record {
-  inside = inside;
-  cells = λ a low high.
-      let e : 300 + 10 * ((a - 300) / 10) + (a - 300) % 10 ≡ a = omega arith in
-      let f : 300 + (a - 300) ≡ a = omega arith in
-      let c = cells ((a - 300) / 10) ((a - 300) % 10) (omega arith) (omega arith) in
-      let t = each_cell (a - 300) (omega arith) in
-      (rw e at c) ∙ (rw f at t);
-}

@@ -24,33 +24,6 @@ pub(crate) struct Number {
     pub(crate) negative: bool,
 }
 
-// The rows of the standard add table, ten cells to a word.
-const ROWS: [u64; 10] = [
-    0x0a48_1e69_448c_2060,
-    0x0429_2079_a512_3081,
-    0x0c50_a481_e694_48c2,
-    0x0cb1_4292_079a_5123,
-    0x04f2_c50a_481e_6944,
-    0x0d13_cb14_2920_79a5,
-    0x0574_4f2c_50a4_81e6,
-    0x0595_d13c_b142_9207,
-    0x0dd6_5744_f2c5_0a48,
-    0x0e37_595d_13cb_1429,
-];
-
-// Whether the standard add table stands in core.
-#[inline(always)]
-fn is_standard<const M: u32>(core: &Core<M>) -> bool
-    ensures { result ≡ true → IsStandard core.now }
-{
-    core.size_law();
-    let mut differences = 0;
-    for x in 0..10 {
-        differences |= core.word(30 + x) ^ ROWS[x as usize];
-    }
-    differences == 0
-}
-
 // The powers of ten up to the tenth.
 const POWERS: [u64; 11] = [
     1,
@@ -126,7 +99,7 @@ fn store_number<const M: u32>(core: &mut Core<M>, p: u32, n: u32, magnitude: u64
 {
     core.size_law();
     let cells = field_cells(magnitude, n, minus);
-    core.put_digits(p + 1 - n, n, cells);
+    core.put_field(p + 1 - n, n, cells);
 }
 
 // The number at Q within as many digits as P's field has.
@@ -222,7 +195,7 @@ pub(crate) fn quick_sum<const M: u32>(
     ensures not_made { result ≡ None → core.new ≡ core.old }
 {
     core.size_law();
-    if !is_standard(core) {
+    if !core.find_add_table() {
         return None;
     }
     let x = match number_at(core, p) {
@@ -246,7 +219,8 @@ pub(crate) fn quick_comparison<const M: u32>(core: &Core<M>, p: u32, q: u32) -> 
     requires q { q < size M }
     ensures { IfSome result (λ shown. comparison core.now p q ≡ Ok shown) }
 {
-    if !is_standard(core) {
+    core.size_law();
+    if !core.has_add_table() {
         return None;
     }
     let x = match number_at(core, p) {

@@ -8,14 +8,15 @@ use Rattle.field_moves.proofs.short_field.Goals as goal
 pub returns-clause-moves : goal.returns-clause-moves
 returns-clause-moves g c _ =
     let l = c.size_law.ensures.length in
-    field_moved c.args.core.now c.put_digits.new.self c.args.p c.args.q c.in-Some.n c.ten-w.result (omega arith) (omega arith) (omega arith) c.ten-w.ensures.cells c.in-Some.ensures.is
+    field_moved c.args.core.now c.put_field.new.self c.args.p c.args.q c.in-Some.n c.ten-w.result (omega arith) (omega arith) (omega arith) c.ten-w.ensures.cells c.in-Some.ensures.is
     (λ j low high. c.if-not-are_good_at.ensures.yes refl j high (c.ones_from.ensures.named j low high))
-    (omega arith) (c.if-not-reads_first_down.ensures refl) c.put_digits.ensures
+    (omega arith) (c.if-not-reads_first_down.ensures refl) c.put_field.ensures
 
 -- core stays as sound as it was
-pub put_digits-requires : goal.put_digits-requires
-put_digits-requires g c =
+pub put_field-requires : goal.put_field-requires
+put_field-requires g c =
     let l = c.size_law.ensures.length in
     let ends = c.in-Some.ensures.is in
     let ten = ends.ten in
-    (omega arith, (ten, (omega arith, λ sound j below. ap is_bad (six_of_high c.ten-w.result (10 - c.in-Some.n) j) ∙ c.if-not-are_good_at.ensures.yes refl (10 - c.in-Some.n + j) (omega arith) (c.ones_from.ensures.named (10 - c.in-Some.n + j) (omega arith) (omega arith)))))
+    let two = ends.two in
+    (omega arith, (omega arith, (ten, (omega arith, λ sound j below. ap is_bad (six_of_high c.ten-w.result (10 - c.in-Some.n) j) ∙ c.if-not-are_good_at.ensures.yes refl (10 - c.in-Some.n + j) (omega arith) (c.ones_from.ensures.named (10 - c.in-Some.n + j) (omega arith) (omega arith))))))

@@ -3,6 +3,8 @@ use Rattle.digit_core.specs.Packed.{cells_of}
 use Rattle.digit_core.proofs.Moving.{all_taken}
 use Rattle.digit_core.proofs.Sixes.{length_cells}
 use Rattle.digit_core.proofs.Sound.{copied_sound, repacked}
+use Rattle.digit_core.specs.declared.standard_tables.AddTable.TheVariants.{Unseen}
+use Rattle.digit_core.proofs.AddTable.{none_known}
 use Rattle.digit_core.proofs.Core.copy_words_down.Goals as goal
 
 pub whole_down-requires : goal.whole_down-requires
@@ -25,16 +27,18 @@ invariant_of-self g c =
     let ws = c.self.inside.words.items in
     let l = c.self.invariant.is_length in
     let k = length_cells ws in
-    repacked g.row.M c.self.inside.words.len ws c.whole_down.new.words c.self.inside.sound c.self.inside.sound c.self.invariant (omega arith) (rw c.deref_mut.ensures.value at c.whole_down.ensures.length) c.whole_down.ensures.sixty_bits
+    repacked g.row.M c.self.inside.words.len ws c.whole_down.new.words c.self.inside.sound c.self.inside.sound c.self.inside.add_table Unseen c.self.invariant (omega arith) (rw c.deref_mut.ensures.value at c.whole_down.ensures.length) c.whole_down.ensures.sixty_bits
     (λ sound. rw (c.whole_down.ensures.cells, c.deref_mut.ensures.value) (copied_sound (cells_of ws) (c.self.invariant.is_sound sound) (10 * c.args.i) (10 * (c.args.from / 10)) (10 * c.args.count) (omega arith)))
+    (none_known (cells_of c.whole_down.new.words))
 
 pub invariant_of-self-else-from-eq0 : goal.invariant_of-self-else-from-eq0
 invariant_of-self-else-from-eq0 g c =
     let ws = c.self.inside.words.items in
     let l = c.self.invariant.is_length in
     let k = length_cells ws in
-    repacked g.row.M c.self.inside.words.len ws c.across_down.new.words c.self.inside.sound c.self.inside.sound c.self.invariant (omega arith) (rw c.deref_mut-else-from-eq0.ensures.value at c.across_down.ensures.length) c.across_down.ensures.sixty_bits
+    repacked g.row.M c.self.inside.words.len ws c.across_down.new.words c.self.inside.sound c.self.inside.sound c.self.inside.add_table Unseen c.self.invariant (omega arith) (rw c.deref_mut-else-from-eq0.ensures.value at c.across_down.ensures.length) c.across_down.ensures.sixty_bits
     (λ sound. rw (c.across_down.ensures.cells, c.deref_mut-else-from-eq0.ensures.value) (copied_sound (cells_of ws) (c.self.invariant.is_sound sound) (10 * c.args.i) (10 * (c.args.from / 10) + c.args.from % 10) (10 * c.args.count) (omega arith)))
+    (none_known (cells_of c.across_down.new.words))
 
 pub returns-then-from-eq0 : goal.returns-then-from-eq0
 returns-then-from-eq0 g c =

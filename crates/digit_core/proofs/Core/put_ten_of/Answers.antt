@@ -1,10 +1,12 @@
--- Core that was sound stays so where the ten cells are known to hold digits.
+-- Core that was sound stays so where the ten cells are found to hold digits.
 use Rattle.std.proofs.Common.{◌∙◌, ◌+◌, ◌*◌, true≢false, sym, ap, arith}
 use Rattle.digit_core.specs.Packed.{cells_of}
 use Rattle.digit_core.proofs.Moving.{all_taken}
+use Rattle.digit_core.specs.declared.standard_tables.AddTable.TheVariants.{Unseen}
 use Rattle.digit_core.proofs.Sound.{repacked, written_sound}
-use Rattle.digit_core.proofs.Core.replace_ten.Goals as goal
-use Rattle.digit_core.proofs.Core.replace_ten.Goals.{then-self, else-self}
+use Rattle.digit_core.proofs.AddTable.{none_known}
+use Rattle.digit_core.proofs.Core.put_ten_of.Goals as goal
+use Rattle.digit_core.proofs.Core.put_ten_of.Goals.{then-self, else-self}
 
 pub put_ten-requires : goal.put_ten-requires
 put_ten-requires g c = record {
@@ -16,15 +18,13 @@ put_ten-requires g c = record {
 pub invariant_of-self : goal.invariant_of-self
 invariant_of-self g c =
     let ws = c.self.inside.words.items in
-    repacked g.row.M c.self.inside.words.len ws c.put_ten.new.words c.self.inside.sound c.if-self.self c.self.invariant (omega arith) (rw c.deref_mut.ensures.value at c.put_ten.ensures.length) c.put_ten.ensures.sixty_bits
+    repacked g.row.M c.self.inside.words.len ws c.put_ten.new.words c.self.inside.sound c.if-self.self c.self.inside.add_table Unseen c.self.invariant (omega arith) (rw c.deref_mut.ensures.value at c.put_ten.ensures.length) c.put_ten.ensures.sixty_bits
     (λ sound.
     elim c.if-self.branch [
-      | then-self w ↦
-          let is = c.self.invariant.is_sound w.if-self.true in
-          let good = c.requires.good (sym w.self-is ∙ sound) (rw c.self.view_is at is) in
-          rw (c.put_ten.ensures.cells, c.deref_mut.ensures.value) (written_sound (cells_of ws) is (10 * c.args.i + c.args.j) 10 c.args.w good)
+      | then-self w ↦ rw (c.put_ten.ensures.cells, c.deref_mut.ensures.value) (written_sound (cells_of ws) (c.self.invariant.is_sound w.if-self.true) (10 * c.args.i + c.args.j) 10 c.args.w (λ i below. w.are_good-self-inside.ensures.yes (sym w.self-is ∙ sound) i below))
       | else-self w ↦ absurd (true≢false (sym sound ∙ w.self-is ∙ w.if-self.false))
     ])
+    (none_known (cells_of c.put_ten.new.words))
 
 pub returns : goal.returns
 returns g c =
