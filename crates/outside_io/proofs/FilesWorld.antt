@@ -5,12 +5,12 @@ use Rattle.std.proofs.lemmas.List.{take-append-drop, length-take}
 use Rattle.std.specs.Prelude.{Option, Some, option_map, if◌then◌else◌, bytes_eq}
 use Rattle.outside_io.specs.declared.host.Unit as unit
 use Rattle.outside_io.specs.declared.host.Unit.TheVariants.{Pack}
-use Rattle.outside_io.specs.declared.files.NamedFile.{NamedFile}
-use Rattle.outside_io.specs.declared.files.Files.{Files}
+use Rattle.outside_io.specs.declared.in_memory.files.NamedFile.{NamedFile}
+use Rattle.outside_io.specs.declared.in_memory.files.Files.{Files}
 use Rattle.outside_io.specs.World.{Asked, one_reading, asked_after, place, same_unit, is_input, is_output, is_pack, at, sectors_after_binding, empty_pack, world_after_binding, world_after_take, world_after_put, BeginsWith, with_file, no_files}
 use Rattle.outside_io.specs.Names.{name_of, HasNoName}
 use Rattle.outside_io.specs.Files.{bytes_at, bytes_named, bytes_of, rest_of, sectors_from, pack_of, world_of, asked_of, Gives, Opens, IsIdle, IsUnasked, AddsFile, SameFiles}
-use Rattle.outside_io.specs.declared.texts.Texts as texts
+use Rattle.outside_io.specs.declared.in_memory.texts.Texts as texts
 use Rattle.outside_io.specs.Texts.{unit_text, Clears, Grows}
 use Rattle.outside_io.proofs.Worlds.{Texts}
 use Rattle.outside_io.proofs.Untold.{same_world}

@@ -5,8 +5,8 @@ use Rattle.std.proofs.lemmas.Bool.Decides.{nat_tests}
 use Rattle.std.specs.Prelude.{◌-◌, min, if◌then◌else◌, ◌==◌, string_bytes, bytes_eq}
 use Rattle.outside_io.specs.declared.host.Unit as unit
 use Rattle.outside_io.specs.declared.host.Unit.TheVariants.{Pack, Report}
-use Rattle.outside_io.specs.declared.files.NamedFile.{NamedFile}
-use Rattle.outside_io.specs.declared.files.Files.{Files}
+use Rattle.outside_io.specs.declared.in_memory.files.NamedFile.{NamedFile}
+use Rattle.outside_io.specs.declared.in_memory.files.Files.{Files}
 use Rattle.outside_io.specs.World.{one_reading, asked_after, most_faults, all_units, place, same_unit, is_input, is_pack, sectors_of}
 use Rattle.outside_io.proofs.Units.{unit_at-place}
 use Rattle.outside_io.specs.Files.{bytes_at, bytes_named, bytes_of, flag_of, rest_of, sectors_from, pack_of, asked_of, with_reading, IsIdle}

@@ -4,13 +4,13 @@ use Rattle.std.proofs.lemmas.List.{append-nil, take-append-drop, drop-replicate,
 use Rattle.std.specs.Prelude.{Option, Some, None, unwrap_or, if◌then◌else◌, replicate, min}
 use Rattle.std.proofs.Math.Path.{fun_ext}
 use Rattle.std.proofs.lemmas.Bool.{true≢false}
-use Rattle.outside_io.specs.declared.files.NamedFile.{NamedFile}
+use Rattle.outside_io.specs.declared.in_memory.files.NamedFile.{NamedFile}
 use Rattle.outside_io.specs.declared.host.Unit as unit
-use Rattle.outside_io.specs.declared.pack.Sectors.{Sectors}
+use Rattle.outside_io.specs.declared.in_memory.pack.Sectors.{Sectors}
 use Rattle.outside_io.specs.Pack.{sectors_over, IsUnwritten}
 use Rattle.outside_io.specs.World.{zero_character, with_zeros, sectors_of, sector_text, empty_pack, blank_pack, sectors_after_binding, place, is_pack, is_output}
 use Rattle.outside_io.specs.declared.host.Unit.TheVariants.{Pack}
-use Rattle.outside_io.specs.declared.files.Files.{Files}
+use Rattle.outside_io.specs.declared.in_memory.files.Files.{Files}
 use Rattle.outside_io.specs.Files.{bytes_at, bytes_of, sectors_from, pack_of, Opens, IsIdle}
 use Rattle.outside_io.proofs.InMemory.{drop_nil, bytes_at-get, bytes_at-past, is_pack-same, same_unit-eq}
 use Rattle.outside_io.proofs.FilesWorld.{idle_pack}

@@ -3,11 +3,11 @@ use Rattle.std.proofs.Common.{◌≡◌, ◌≢◌, ℕ, zero, suc, ◌+◌, ◌
 use Rattle.std.specs.Prelude.{if◌then◌else◌, ◌==◌, slice_index_or}
 use Rattle.outside_io.specs.declared.host.Unit as unit
 use Rattle.outside_io.specs.declared.host.Unit.TheVariants.{Source}
-use Rattle.outside_io.specs.declared.texts.Output.{Output}
+use Rattle.outside_io.specs.declared.in_memory.texts.Output.{Output}
 use Rattle.outside_io.specs.World.{all_units, place, same_unit, is_output}
 use Rattle.outside_io.specs.Texts.{text_at, room_at}
 use Rattle.outside_io.specs.Rooms.{unit_room}
-use Rattle.outside_io.specs.declared.mem.MemHost.{MemHost}
+use Rattle.outside_io.specs.declared.in_memory.mem.MemHost.{MemHost}
 use Rattle.outside_io.specs.Mem.{IsWithinRoom}
 use Rattle.outside_io.proofs.Units.{unit_at-place}
 use Rattle.outside_io.proofs.InMemory.{eq_from_test, ne_from_test, same_unit-eq}

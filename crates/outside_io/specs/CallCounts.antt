@@ -1,7 +1,7 @@
 -- Which calls fail.
 use Rattle.std.specs.Prelude.{◌≡◌, ◌≤◌, Bool, ◌==◌}
 use Rattle.std.specs.List.{list_any}
-use Rattle.outside_io.specs.declared.mem.Calls.{Calls}
+use Rattle.outside_io.specs.declared.in_memory.mem.Calls.{Calls}
 use Rattle.outside_io.specs.World.{one_more}
 
 -- the next call is to fail

@@ -1,8 +1,8 @@
 -- What files in memory mean.
 use Rattle.std.specs.Prelude.{◌≡◌, ℕ, zero, suc, ◌≤◌, Bool, true, false, List, [], ◌∷◌, length, take, drop, Option, Some, slice_index_or, string_bytes, bytes_eq, if◌then◌else◌}
 use Rattle.outside_io.specs.declared.host.Unit as unit
-use Rattle.outside_io.specs.declared.files.NamedFile.{NamedFile}
-use Rattle.outside_io.specs.declared.files.Files.{Files}
+use Rattle.outside_io.specs.declared.in_memory.files.NamedFile.{NamedFile}
+use Rattle.outside_io.specs.declared.in_memory.files.Files.{Files}
 use Rattle.outside_io.specs.declared.host.Unit.TheVariants.{Pack}
 use Rattle.outside_io.specs.World.{World, Asked, one_reading, asked_after, place, same_unit, is_input, is_pack, sectors_of, empty_pack}
 use Rattle.outside_io.specs.Names.{name_of, KeepsName}

@@ -1,7 +1,7 @@
 -- What a host in memory tells, and when it fails.
 use Rattle.std.specs.Prelude.{◌≡◌, ℕ, ◌≤◌, Bool, true, List, length, Option, Some, IfSome}
 use Rattle.outside_io.specs.declared.host.Unit as unit
-use Rattle.outside_io.specs.declared.mem.MemHost.{MemHost}
+use Rattle.outside_io.specs.declared.in_memory.mem.MemHost.{MemHost}
 use Rattle.outside_io.specs.World.{World, Seen, one_more, is_output, no_files}
 use Rattle.outside_io.specs.CallCounts.{next_fails}
 use Rattle.outside_io.specs.Files.{world_of, pack_of}

@@ -1,6 +1,6 @@
 -- What the sectors that were written mean over those of a file.
 use Rattle.std.specs.Prelude.{◌≡◌, ℕ, List, Option, None, unwrap_or, slice_index_or}
-use Rattle.outside_io.specs.declared.pack.Sectors.{Sectors}
+use Rattle.outside_io.specs.declared.in_memory.pack.Sectors.{Sectors}
 use Rattle.outside_io.specs.World.{with_sector}
 
 -- a pack over a base: each sector is the written one, or that of the base where none was written

@@ -1,6 +1,6 @@
 -- What a quiet host tells.
 use Rattle.std.specs.Prelude.{None}
-use Rattle.outside_io.specs.declared.quiet.QuietHost.{QuietHost}
+use Rattle.outside_io.specs.declared.in_memory.quiet.QuietHost.{QuietHost}
 use Rattle.outside_io.specs.World.{World, Seen}
 use Rattle.outside_io.specs.Files.{world_of}
 

@@ -1,8 +1,8 @@
 -- What texts in memory mean.
 use Rattle.std.specs.Prelude.{◌≡◌, ℕ, zero, suc, ◌≤◌, Bool, true, List, [], ◌∷◌, ◌++◌, length, take, if◌then◌else◌, ◌==◌, nat_le}
 use Rattle.outside_io.specs.declared.host.Unit as unit
-use Rattle.outside_io.specs.declared.texts.Output.{Output}
-use Rattle.outside_io.specs.declared.texts.Texts.{Texts}
+use Rattle.outside_io.specs.declared.in_memory.texts.Output.{Output}
+use Rattle.outside_io.specs.declared.in_memory.texts.Texts.{Texts}
 use Rattle.outside_io.specs.World.{place, same_unit, is_output}
 
 -- the text at a place of the list, none past its end

@@ -1,9 +1,8 @@
 // The lock by which a run has the file of its pack for itself.
+// Source: this project's own.
 use std::fs::{File, TryLockError};
 
 /// Who else may have a file while a run has it.
-///
-/// Source: this project's own.
 #[derive(Clone, Copy, Debug, PartialEq, Eq)]
 pub enum Sharing {
     /// Nobody: the run writes it.
@@ -13,13 +12,10 @@ pub enum Sharing {
 }
 
 /// A file that a run can have for itself for as long as it is open.
-///
-/// Source: this project's own.
 pub trait Lockable {
     /// Takes the file for this run; false where another run has it so that it can't be shared.
     ///
     /// Where the system has no locks for the file the answer is true, and nothing is locked.
-    /// Source: this project's own.
     fn hold(&self, sharing: Sharing) -> bool;
 }
 

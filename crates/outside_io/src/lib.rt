@@ -9,27 +9,23 @@
 #![tactic(auto)]
 
 mod again;
-mod files;
 mod hold;
 mod host;
+mod in_memory;
 mod lines;
-mod mem;
 mod names;
 mod opened;
-mod pack;
 mod pack_file;
-mod quiet;
 mod real;
 mod scratch;
-mod texts;
 mod trouble;
 mod whole;
 
 pub use hold::{Lockable, Sharing};
 pub use host::{ALL_SECTORS, Bound, Drive, Host, Put, SECTOR_LENGTH, Take, UNIT_COUNT, Unit};
+pub use in_memory::mem::MemHost;
+pub use in_memory::quiet::QuietHost;
 pub use lines::{split_line, without_return};
-pub use mem::MemHost;
-pub use quiet::QuietHost;
 pub use real::RealHost;
 pub use scratch::PackRoom;
 pub use trouble::{Cause, Doing, Trouble};

@@ -1,4 +1,5 @@
 // Lines of bytes.
+// Source: this project's own.
 ghost use Rattle.std.specs.Prelude.{◌≡◌, ◌<◌, ◌↔◌, [], length, IsNone, IfSome};
 ghost use Rattle.outside_io.specs.Lines.{behind_line, first_text, without_return};
 
@@ -7,7 +8,6 @@ use memchr::memchr;
 /// The text of a line without one CR at its end.
 ///
 /// A text that ends in no CR is given back as it is, and of two CRs only the last is dropped.
-/// Source: this project's own.
 pub fn without_return(text: &[u8]) -> &[u8]
     ensures { result.now ≡ without_return text.now }
 {
@@ -23,7 +23,6 @@ pub fn without_return(text: &[u8]) -> &[u8]
 ///
 /// A line is ended by a LF; a last line without LF counts where it has a byte. The line comes without its LF and without one CR at
 /// its end. What stands behind it is shorter than `bytes`, and empty where no LF was found.
-/// Source: this project's own.
 pub fn split_line(bytes: &[u8]) -> Option<(&[u8], &[u8])>
     ensures none { IsNone result ↔ (bytes.now ≡ []) }
     ensures line { IfSome result (λ split. split.0.now ≡ first_text bytes.now) }

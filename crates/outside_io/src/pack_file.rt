@@ -1,5 +1,5 @@
 // The sectors of a pack in its file: sector a stands from byte 100a on.
-ghost use Rattle.std.specs.Prelude.{◌≡◌, ◌≤◌, ◌<◌, ◌*◌, false, Ok, IsOk, OnOk, OnErr, IfNone};
+ghost use Rattle.std.specs.Prelude.{◌≡◌, ◌≤◌, ◌<◌, ◌*◌, false, IsOk, OnOk, OnErr, IfNone};
 ghost use Rattle.outside_io.specs.declared.host.TheConstants.{ALL_SECTORS};
 ghost use Rattle.outside_io.specs.Scratch.{scratch_sectors, scratch_room, WritesScratch, KeepsScratch};
 
@@ -46,13 +46,18 @@ pub(crate) fn read_sector<F: Read + Seek>(
     place: &mut PackPlace,
     scratch: &ScratchPack,
     a: u32,
-) -> Result<[u8; SECTOR_LENGTH], Cause>
+    into: &mut [u8; SECTOR_LENGTH],
+) -> Result<(), Cause>
     requires { a < ALL_SECTORS }
-    ensures { IfNone pack.old (result ≡ Ok (scratch_sectors scratch.now a)) }
+    ensures ok { IfNone pack.old (IsOk result) }
+    ensures text { IfNone pack.old (into.new ≡ scratch_sectors scratch.now a) }
 {
     match pack {
-        Some(file) if is_in_use => read_from(file, place, a),
-        _ => Ok(scratch.get(a)),
+        Some(file) if is_in_use => read_from(file, place, a, into),
+        _ => {
+            scratch.copy_sector(a, into);
+            Ok(())
+        }
     }
 }
 
@@ -85,21 +90,21 @@ fn read_from<F: Read + Seek>(
     file: &mut F,
     place: &mut PackPlace,
     a: u32,
-) -> Result<[u8; SECTOR_LENGTH], Cause> {
+    into: &mut [u8; SECTOR_LENGTH],
+) -> Result<(), Cause> {
     let start = start_of(a);
     go_to(file, place, start)?;
     place.at = None;
-    let mut text = [0; SECTOR_LENGTH];
     let mut n = 0;
     while n < SECTOR_LENGTH {
-        match again::read(file, &mut text[n..])? {
+        match again::read(file, &mut into[n..])? {
             0 => break,
             more => n += more,
         }
     }
     place.at = Some(start.saturating_add(n as u64));
-    text[n..].fill(b'0');
-    Ok(text)
+    into[n..].fill(b'0');
+    Ok(())
 }
 
 // Goes to this byte of the file, where it doesn't stand there.

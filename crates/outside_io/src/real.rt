@@ -248,6 +248,7 @@ where
             &mut self.place,
             &self.scratch,
             a,
+            into,
         ) {
             Err(cause) => {
                 self.fail(Trouble {
@@ -257,10 +258,7 @@ where
                 });
                 Drive::Failed
             }
-            Ok(text) => {
-                *into = text;
-                Drive::Done
-            }
+            Ok(()) => Drive::Done,
         }
     }
 

@@ -1,4 +1,5 @@
 // The pack of a host over files while no file is bound to it, and the room for all of it.
+// Source: this project's own.
 ghost use Rattle.std.specs.Prelude.{◌≡◌, ◌≤◌, ◌<◌, ℕ, [], length, vec_capacity, IfSome, IsOk, OnOk, OnErr};
 ghost use Rattle.outside_io.specs.World.{blank_pack};
 ghost use Rattle.outside_io.specs.declared.host.TheConstants.{ALL_SECTORS};
@@ -9,7 +10,6 @@ use std::alloc::{AllocError, Global};
 /// The room for a blank pack: the memory of all its 80,000 sectors, 8,000,000 bytes.
 ///
 /// It is reserved and not filled: where the system gives memory as it is touched, a sector that is never reached costs nothing.
-/// Source: this project's own.
 #[derive(Drop)]
 pub struct PackRoom {
     sectors: Vec<[u8; SECTOR_LENGTH]>,
@@ -19,8 +19,6 @@ pub struct PackRoom {
 
 impl PackRoom {
     /// Reserves the room. The error is want of memory.
-    ///
-    /// Source: this project's own.
     pub fn reserve(alloc: Global) -> Result<Self, AllocError> {
         Ok(PackRoom {
             sectors: Vec::with_capacity(alloc, ALL_SECTORS)?,
@@ -53,16 +51,16 @@ impl ScratchPack {
         }
     }
 
-    // The bytes of a sector.
-    pub(crate) fn get(&self, a: u32) -> [u8; SECTOR_LENGTH]
+    // Copies the bytes of a sector.
+    pub(crate) fn copy_sector(&self, a: u32, into: &mut [u8; SECTOR_LENGTH])
         requires { a < ALL_SECTORS }
-        ensures { result ≡ scratch_sectors self.now a }
+        ensures { into.new ≡ scratch_sectors self.now a }
     {
         let a = a as usize;
         if a < self.sectors.len() {
-            self.sectors[a]
+            *into = self.sectors[a];
         } else {
-            [b'0'; SECTOR_LENGTH]
+            *into = [b'0'; SECTOR_LENGTH];
         }
     }
 

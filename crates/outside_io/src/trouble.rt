@@ -1,4 +1,5 @@
 // What the host over files was doing when it failed, and why.
+// Source: this project's own.
 ghost use Rattle.std.specs.Prelude.{◌≡◌};
 ghost use Rattle.outside_io.specs.declared.trouble.Cause.TheVariants.{System};
 
@@ -6,8 +7,6 @@ use crate::Unit;
 use std::io::Error;
 
 /// What the host over files was doing when it failed.
-///
-/// Source: this project's own.
 #[derive(Clone, Copy, Debug, PartialEq, Eq)]
 pub enum Doing {
     /// It opened the file that a unit was to be bound to.
@@ -25,8 +24,6 @@ pub enum Doing {
 }
 
 /// Why the host over files failed.
-///
-/// Source: this project's own.
 #[derive(Debug, Drop)]
 pub enum Cause {
     /// The system's error. Where there is no memory for the blank pack, its kind is out of memory.
@@ -50,8 +47,6 @@ impl From<Error> for Cause {
 }
 
 /// A failure of the host over files: at which unit, in doing what, and why.
-///
-/// Source: this project's own.
 #[derive(Debug, Drop)]
 pub struct Trouble {
     /// The unit of the call, or at the end of a job that of the output.

@@ -1,4 +1,5 @@
 // Whole texts, over a host that takes and gives them in pieces.
+// Source: this project's own.
 ghost use Rattle.std.specs.Prelude.{◌≡◌, true};
 ghost use Rattle.outside_io.specs.World.{is_input, is_output};
 ghost use Rattle.outside_io.specs.declared.whole.ReadAll.TheVariants.{Memory};
@@ -9,8 +10,6 @@ use std::alloc::{AllocError, Global};
 use thiserror::Error;
 
 /// How the writing of a whole text ends.
-///
-/// Source: this project's own.
 #[derive(Clone, Copy, Debug, PartialEq, Eq)]
 pub enum Sent {
     /// All of it was written.
@@ -20,8 +19,6 @@ pub enum Sent {
 }
 
 /// Why a unit was not read to its end. A first part of its bytes is gone then.
-///
-/// Source: this project's own.
 #[derive(Debug, Drop, Error)]
 pub enum ReadAll {
     /// The unit had more bytes than the limit.
@@ -47,7 +44,6 @@ impl From<AllocError> for ReadAll {
 ///
 /// `Done`: the piece was added to what the output has been given. `Failed` only where the host's count of faults rose: a first part
 /// of the piece was added.
-/// Source: this project's own.
 pub fn write_all<H: Host>(host: &mut H, unit: Unit, piece: &[u8]) -> Sent
     requires { is_output unit ≡ true }
     ensures { Sends (H.seen host.old) (H.seen host.new) unit piece.now result }
@@ -66,7 +62,6 @@ pub fn write_all<H: Host>(host: &mut H, unit: Unit, piece: &[u8]) -> Sent
 ///
 /// No more than one byte over the limit is ever taken. The errors are a unit with more bytes, of which `limit + 1` are gone then; a
 /// fault of the host, after at most `limit` bytes; and want of memory for the bytes that are gone, which are 1 to `limit`.
-/// Source: this project's own.
 pub fn read_all<H: Host>(
     alloc: Global,
     host: &mut H,
