@@ -12,8 +12,8 @@ use Rattle.digit_core.proofs.Below.{same_below}
 use Rattle.traces.specs.Trace.{map_answer}
 use Rattle.card_code.specs.Characters.{num_of, object_digit, object_char, punch_num, digit_in, char_in}
 use Rattle.digit_core.specs.Within.{HasBad}
-use Rattle.card_code.specs.Words.{AreCells, HasNoDigit, AreSixes, AreEntries, HasNoEntry, AreChars, AreCharEntries, HasNoChar}
-use Rattle.card_code.specs.declared.words.TheConstants.{OBJECT_CELLS, OBJECT_CHARS, NUM_CELLS, PUNCH_CHARS}
+use Rattle.card_code.specs.Words.{AreCells, HasNoDigit, AreSixes, AreEntries, HasNoEntry, AreChars, AreCharEntries, HasNoChar, PutsChars, PutsEntries}
+use Rattle.card_code.specs.declared.tables.TheConstants.{OBJECT_CELLS, OBJECT_CHARS, NUM_CELLS, PUNCH_CHARS}
 
 -- what a table of cells has for a character's digit
 abbrev pub entry_of : Option Digit → ℕ
@@ -81,9 +81,9 @@ module _ (f : Digit → ℕ) (table : List ℕ) (has : HasChars f table) (w : �
       let bad = has.bads (six w lacks.at) (small lacks.at) in
       record { place = lacks.at; ten = lacks.within; bad = rw test at bad }
 
-  pub chars_by_table : (r : Option (List ℕ)) → MatchOption r (HasNoChar table w) (AreCharEntries table w) → MatchOption r (HasBad w) (AreChars f w)
-  chars_by_table None lacks = bad_cell_by lacks
-  chars_by_table (Some chars) are = chars_by chars are
+  pub puts_by_table : (text : List ℕ) (all : Bool) → PutsEntries table w text all → PutsChars f w text all
+  puts_by_table text false lacks = bad_cell_by lacks
+  puts_by_table text true are = chars_by text are
 
 -- the tables of object characters
 pub object_cells : HasCells object_digit OBJECT_CELLS

@@ -1,4 +1,4 @@
-pub mod Tables
+pub mod DigitTables
 pub mod CellsWritten
 pub mod CellWords
 pub mod CellTables

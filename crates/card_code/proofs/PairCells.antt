@@ -12,7 +12,7 @@ use Rattle.digit_core.proofs.Below.{same_below}
 use Rattle.digit_core.proofs.Sixes.{six_cat_low, six_cat_high}
 use Rattle.card_code.specs.Pairs.{Pair, alpha_of, pair_in}
 use Rattle.card_code.specs.Words.{pair_cells, ArePairCells, HasNoPair, ArePairEntries, HasNoPairEntry}
-use Rattle.card_code.specs.declared.pair_words.TheConstants.{PAIR_CELLS}
+use Rattle.card_code.specs.declared.tables.TheConstants.{PAIR_CELLS}
 use Rattle.card_code.proofs.CellWords.{entry}
 
 -- both cells of a word's pair number j

@@ -2,12 +2,11 @@
 use Rattle.std.proofs.Common.{◌≡◌, ℕ, ◌<◌, Bool, true, false, List, [], ◌∷◌, ◌++◌, Option, Some, None, refl, sym, ◌∙◌, ap, arith}
 use Rattle.std.proofs.lemmas.Bool.Decides.{nat_tests}
 use Rattle.std.proofs.lemmas.Nat.{div-mul-add, mod-mul-add}
-use Rattle.std.specs.Prelude.{if◌then◌else◌, ◌==◌, ◌+◌, ◌*◌, ◌/◌, ◌%◌}
+use Rattle.std.specs.Prelude.{if◌then◌else◌, ◌==◌, ◌+◌, ◌*◌, ◌/◌, ◌%◌, unwrap_or}
 use Rattle.digit_core.specs.declared.Digit.{Digit}
 use Rattle.digit_core.specs.Cell.{IsGood, is_value, unflagged_digit, same_digit}
 use Rattle.digit_core.proofs.Below.{same_below}
 use Rattle.card_code.proofs.PairTables.{inside, outside}
-use Rattle.card_code.proofs.Tables.{punch_cases}
 use Rattle.card_code.specs.Pairs.{Pair, pair_table, alpha_of, punch_alpha, pair_in, pair_char_in}
 use Rattle.card_code.specs.Characters.{num_of, object_digit, object_char, punch_num, digit_in, char_in, object_table, DigitEntry}
 
@@ -101,6 +100,16 @@ pair_read false z n c is writes = let none = outside pair_table z n refl is in c
 -- a character that a pair is written as is read as the pair
 pub alpha_of-punch_alpha : (z n c : ℕ) → punch_alpha z n ≡ Some c → alpha_of c ≡ Some (record { zone = z; number = n })
 alpha_of-punch_alpha z n c writes = pair_read (inside z n) z n c refl writes
+
+-- one entry before the others, or none
+with_blank : (b : Bool) (o : Option ℕ) → unwrap_or (if b then Some 32 else o) 32 ≡ (if b then 32 else unwrap_or o 32)
+with_blank true o = refl
+with_blank false o = refl
+
+-- what is punched is the object character, or a blank
+punch_cases : (d : Digit) → punch_num d ≡ (if same_digit (unflagged_digit 12) d then 32 else object_char d)
+unfolding char_in
+punch_cases d = with_blank (same_digit (unflagged_digit 12) d) (char_in object_table d)
 
 -- a digit's punched character is read as the digit, if it isn't the blank for an unflagged numerical blank
 pub num_of-punch_num : (d : Digit) → IsGood d → same_digit (unflagged_digit 12) d ≡ false → num_of (punch_num d) ≡ Some d

@@ -1,10 +1,39 @@
 -- Characters, and the word of their cells.
-use Rattle.std.specs.Prelude.{ℕ, ◌+◌, ◌*◌, ◌≡◌, ◌<◌, ◌≤◌, true, List, length, slice_index, Option, Some, None, option_map, Ok}
+use Rattle.std.specs.Prelude.{ℕ, ◌+◌, ◌*◌, ◌≡◌, ◌<◌, ◌≤◌, Bool, true, false, List, length, slice_index, Option, Some, None, option_map, Ok, nat_lt, ◌==◌, ◌&&◌, ◌/◌, ◌%◌, if◌then◌else◌}
 use Rattle.digit_core.specs.declared.Digit.{Digit}
 use Rattle.digit_core.specs.{cell, unflagged_digit, read_cell, six, AreGoodUpTo}
+use Rattle.digit_core.specs.Cell.{digit_of_cell, low_bits}
 use Rattle.digit_core.specs.Search.{is_bad}
+use Rattle.digit_core.specs.Within.{HasBad}
 use Rattle.traces.specs.Trace.{map_answer}
 use Rattle.card_code.specs.Pairs.{Pair, alpha_of}
+
+-- the digit of a character by a table of cells, which has 0 for a bad character
+abbrev pub digit_of_entry : ℕ → Option Digit
+digit_of_entry c = if c == 0 then None else Some (digit_of_cell c)
+
+abbrev pub digit_entry : List ℕ → ℕ → Option Digit
+digit_entry table c = digit_of_entry (slice_index table c)
+
+-- the character of a digit by a table of the characters of cells: of the two cells that differ in the bit C alone one has none
+abbrev pub char_entry : List ℕ → Digit → ℕ
+char_entry table d =
+    if nat_lt (slice_index table (low_bits d)) 128 then slice_index table (low_bits d) else slice_index table (low_bits d + 32) % 128
+
+-- the two digits of a character by a table of the cells of pairs
+abbrev pub pair_of_entry : ℕ → Option (ℕ × ℕ)
+pair_of_entry x = if nat_lt x 4096 then Some (x % 16, x / 64 % 16) else None
+
+abbrev pub pair_entry : List ℕ → ℕ → Option (ℕ × ℕ)
+pair_entry table c = pair_of_entry (slice_index table c)
+
+-- the character of a zone and a number by a table of 16 characters for each zone
+abbrev pub char_of_entry : ℕ → Option ℕ
+char_of_entry c = if nat_lt c 128 then Some c else None
+
+abbrev pub pair_char_entry : List ℕ → ℕ → ℕ → Option ℕ
+pair_char_entry table zone number =
+    if nat_lt zone 8 && nat_lt number 16 then char_of_entry (slice_index table (16 * zone + number)) else None
 
 -- each character has a digit, and the word has its good cell
 pub record AreCells (digit_of : ℕ → Option Digit) (text : List ℕ) (w : ℕ) : Type 0 where
@@ -46,6 +75,16 @@ pub record HasNoChar (table : List ℕ) (w : ℕ) : Type 0 where
   pub at : ℕ
   pub within : at < 10
   pub none : 128 ≤ slice_index table (six w at)
+
+-- a text has the characters of a word's cells, or one of the cells is bad
+abbrev pub PutsChars : (Digit → ℕ) → ℕ → List ℕ → Bool → Type 0
+PutsChars char_of w text true = AreChars char_of w text
+PutsChars char_of w text false = HasBad w
+
+-- the same by a table
+abbrev pub PutsEntries : List ℕ → ℕ → List ℕ → Bool → Type 0
+PutsEntries table w text true = AreCharEntries table w text
+PutsEntries table w text false = HasNoChar table w
 
 -- the two good cells of a pair, the zone's first
 abbrev pub pair_cells : Pair → ℕ × ℕ

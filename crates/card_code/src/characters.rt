@@ -1,38 +1,23 @@
 // The characters that stand for one digit.
 
-ghost use Rattle.std.specs.Prelude.{◌≡◌, ℕ, Option, Some, None, IfSome, IsTrue};
-ghost use Rattle.digit_core.specs.Cell.{is_value, IsGood};
+ghost use Rattle.std.specs.Prelude.{◌≡◌, ◌<◌, IfSome};
+ghost use Rattle.digit_core.specs.Cell.{IsGood};
 ghost use Rattle.card_code.specs.Characters.{num_of, object_digit, object_char, punch_num};
+ghost use Rattle.card_code.specs.Words.{digit_entry, char_entry};
 
+use crate::tables::{NO_CELL, NO_CHAR, NUM_CELLS, OBJECT_CELLS, OBJECT_CHARS, PUNCH_CHARS};
 use digit_core::Digit;
-
-// A digit of these parts.
-fn digit(flag: bool, value: u8) -> Option<Digit>
-    requires { IsTrue (is_value value) }
-    ensures is { result ≡ Some (record { flag = flag; value = value }) }
-    ensures good { IfSome result IsGood }
-{
-    Some(Digit { flag, value })
-}
 
 /// The digit of a character of a card or a keyboard line, read numerically.
 ///
 /// Besides the object characters, `A` to `I` are 1 to 9, `/` and `S` to `Z` are 1 to 9 too, `+` and a blank are 0, and `-` is a
 /// flagged 0. `None` for any other byte, which a reading instruction takes for an unflagged 0 with the read check on.
 /// Source: CPU manual, card codes; the characters of flags and marks, and which bytes are none, are this project's own.
-#[tactic(auto, using(crate::proofs::Tables::num_ranges))]
 pub fn num_of(c: u8) -> Option<Digit>
     ensures is { result ≡ num_of c }
     ensures good { IfSome result IsGood }
 {
-    match c {
-        b' ' | b'+' => digit(false, 0),
-        b'/' => digit(false, 1),
-        b'A'..=b'I' => digit(false, c - b'A' + 1),
-        b'S'..=b'Z' => digit(false, c - b'S' + 2),
-        b'-' => digit(true, 0),
-        _ => object_digit(c),
-    }
+    digit_by(&NUM_CELLS, c)
 }
 
 /// The digit of an object character: a character that a digit is typed, punched or printed as.
@@ -40,45 +25,22 @@ pub fn num_of(c: u8) -> Option<Digit>
 /// `0` to `9` are themselves, `]` and `J` to `R` the flagged 0 to 9, `|`, `@` and `}` the record mark, the numerical blank and the
 /// group mark, and `!`, `*` and `"` the same with a flag. `None` for any other byte.
 /// Source: CPU manual, typewriter codes; the characters of flags and marks are this project's own.
-#[tactic(auto, using(crate::proofs::Tables::object_ranges))]
 pub fn object_digit(c: u8) -> Option<Digit>
     ensures is { result ≡ object_digit c }
     ensures good { IfSome result IsGood }
 {
-    match c {
-        b'0'..=b'9' => digit(false, c - b'0'),
-        b'J'..=b'R' => digit(true, c - b'J' + 1),
-        b']' => digit(true, 0),
-        b'|' => digit(false, 10),
-        b'!' => digit(true, 10),
-        b'@' => digit(false, 12),
-        b'*' => digit(true, 12),
-        b'}' => digit(false, 15),
-        b'"' => digit(true, 15),
-        _ => None,
-    }
+    digit_by(&OBJECT_CELLS, c)
 }
 
 /// The object character of a digit that a cell can hold.
 ///
 /// It is the one character that [`object_digit`] reads as this digit, and [`num_of`] reads it so too.
 /// Source: CPU manual, typewriter codes; the characters of flags and marks are this project's own.
-#[tactic(auto, using(crate::proofs::Tables::char_cases))]
 pub fn object_char(d: Digit) -> u8
     requires { IsGood d }
     ensures { result ≡ object_char d }
 {
-    match (d.flag, d.value) {
-        (false, 0..=9) => b'0' + d.value,
-        (true, 0) => b']',
-        (true, 1..=9) => b'J' + d.value - 1,
-        (false, 10) => b'|',
-        (true, 10) => b'!',
-        (false, 12) => b'@',
-        (true, 12) => b'*',
-        (false, _) => b'}',
-        (true, _) => b'"',
-    }
+    char_by(&OBJECT_CHARS, d)
 }
 
 /// The character that a digit that a cell can hold is punched as.
@@ -86,13 +48,40 @@ pub fn object_char(d: Digit) -> u8
 /// It is the digit's object character, but an unflagged numerical blank is punched as a blank, which no hole stands for. The flagged
 /// one keeps its `*`.
 /// Source: 1622 manual, numerical writing; the characters of flags and marks are this project's own.
-#[tactic(auto, using(crate::proofs::Tables::punch_cases))]
 pub fn punch_num(d: Digit) -> u8
     requires { IsGood d }
     ensures { result ≡ punch_num d }
 {
-    match (d.flag, d.value) {
-        (false, 12) => b' ',
-        _ => object_char(d),
+    char_by(&PUNCH_CHARS, d)
+}
+
+// The digit of a character by a table of cells, where it has one.
+#[inline(always)]
+fn digit_by(table: &[u8; 256], c: u8) -> Option<Digit>
+    ensures { result ≡ digit_entry table.now c }
+{
+    let cell = table[c as usize];
+    if cell == NO_CELL {
+        return None;
+    }
+    Some(Digit {
+        flag: cell / 16 % 2 == 1,
+        value: cell % 16,
+    })
+}
+
+// The character of a digit by a table. Of the two cells with the digit's flag and value one is good; the other has no character.
+#[inline(always)]
+fn char_by(table: &[u8; 64], d: Digit) -> u8
+    requires { d.value < 16 }
+    ensures { result ≡ char_entry table.now d }
+{
+    let low = if d.flag { 16 + d.value } else { d.value };
+    let char = table[low as usize];
+    // The remainder changes nothing. By it the compiler learns that the character is below 128, and so one byte of a text.
+    if char < NO_CHAR {
+        char
+    } else {
+        table[low as usize + 32] % NO_CHAR
     }
 }

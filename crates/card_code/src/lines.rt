@@ -1,4 +1,5 @@
 // The lines of a unit, read through a buffer of fixed size.
+// Source: this project's own.
 ghost use Rattle.std.specs.Prelude.{◌≡◌, ◌≤◌, ◌<◌, ℕ, [], length, true};
 ghost use Rattle.outside_io.specs.World.{is_input, World};
 ghost use Rattle.outside_io.specs.Lines.{HasNoEnd};
@@ -10,8 +11,6 @@ use memchr::memchr;
 use outside_io::{Host, Take, Unit, without_return};
 
 /// What comes of reading a line.
-///
-/// Source: this project's own.
 #[derive(Clone, Copy, Debug)]
 pub enum LineAnswer {
     /// The next line, which is taken.
@@ -25,8 +24,6 @@ pub enum LineAnswer {
 }
 
 /// Whether anything is left to be read.
-///
-/// Source: this project's own.
 #[derive(Clone, Copy, Debug, PartialEq, Eq)]
 pub enum More {
     /// A byte is left.
@@ -47,7 +44,6 @@ const PIECE_ROOM: usize = 4014;
 ///
 /// A line is ended by a LF; a last line without LF counts where it has a byte. One CR at the end of a line is dropped. However the
 /// host cuts the unit's bytes, the lines are the same. At most 4,096 bytes are taken from the unit and not handed out yet.
-/// Source: this project's own.
 #[derive(Drop)]
 pub struct Lines {
     unit: Unit,
@@ -72,7 +68,6 @@ impl Lines {
     /// The lines of what a unit has left, of which none is handed out yet, and none asked for.
     ///
     /// `unit` is an input.
-    /// Source: this project's own.
     pub fn new(unit: Unit) -> Lines
         requires { is_input unit ≡ true }
         ensures unit { unit_of result ≡ unit }
@@ -101,7 +96,6 @@ impl Lines {
     /// is handed out before the host is asked for anything behind the piece that ends it, and within one call the host is asked no more
     /// once it has found the unit's end. That holds of all that was asked since the reader was made, and not of this call alone: the unit was
     /// asked for no more than the lines that were handed out and the next one need, and one look of [`Lines::more`] behind each line.
-    /// Source: this project's own.
     #[tactic(auto, using(crate::proofs::Readers::short))]
     pub fn next_line<H: Host>(&mut self, host: &mut H) -> LineAnswer
         ensures line { NextLine self.old self.new (H.seen host.old) (H.seen host.new) result }
@@ -138,7 +132,6 @@ impl Lines {
     /// Whether a byte is left. The lines that are left stay as they are.
     ///
     /// `Failed` only where the host's count of faults rose. Where a byte is held the host isn't asked, and else once.
-    /// Source: this project's own.
     #[tactic(auto, using(crate::proofs::Readers::short))]
     pub fn more<H: Host>(&mut self, host: &mut H) -> More
         ensures more { HasMore self.old self.new (H.seen host.old) (H.seen host.new) result }

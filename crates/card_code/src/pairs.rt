@@ -1,9 +1,10 @@
 // The characters that stand for a pair of digits.
-ghost use Rattle.std.specs.Prelude.{◌≡◌, ℕ, Option, Some, None, IfSome, IsTrue, option_map};
-ghost use Rattle.digit_core.specs.Cell.{is_value, unflagged_digit, IsGood};
+ghost use Rattle.std.specs.Prelude.{◌≡◌, IfSome, option_map};
 ghost use Rattle.card_code.specs.Pairs.{alpha_of, punch_alpha, digits, IsGoodPair};
+ghost use Rattle.card_code.specs.Words.{pair_entry, pair_char_entry};
 ghost use Rattle.card_code.specs.TextOut.{pair_char, written_char, panel_after_pair};
 
+use crate::tables::{NO_CHAR, NO_PAIR, PAIR_CELLS, PAIR_CHARS};
 use digit_core::Digit;
 use indicators::{Panel, WRITE_CHECK};
 
@@ -11,65 +12,21 @@ use indicators::{Panel, WRITE_CHECK};
 ///
 /// `None` for a byte that has no pair, which a reading instruction takes for 00 with the read check on.
 /// Source: 1622 manual, card codes; the characters of `]`, `|` and `}`, and which bytes have no pair, are this project's own.
-#[tactic(auto, using(crate::proofs::PairTables::pair_ranges))]
 pub fn alpha_of(c: u8) -> Option<(u8, u8)>
     ensures is { result ≡ option_map digits (alpha_of c) }
     ensures good { IfSome result IsGoodPair }
 {
-    match c {
-        b' ' => Some((0, 0)),
-        b'.' => Some((0, 3)),
-        b')' => Some((0, 4)),
-        b'+' => Some((1, 0)),
-        b'$' => Some((1, 3)),
-        b'*' => Some((1, 4)),
-        b'-' => Some((2, 0)),
-        b'/' => Some((2, 1)),
-        b',' => Some((2, 3)),
-        b'(' => Some((2, 4)),
-        b'=' => Some((3, 3)),
-        b'@' => Some((3, 4)),
-        b'A'..=b'I' => Some((4, c - b'A' + 1)),
-        b']' => Some((5, 0)),
-        b'J'..=b'R' => Some((5, c - b'J' + 1)),
-        b'S'..=b'Z' => Some((6, c - b'S' + 2)),
-        b'0'..=b'9' => Some((7, c - b'0')),
-        b'|' => Some((0, 10)),
-        b'}' => Some((0, 15)),
-        _ => None,
-    }
+    pair_by(&PAIR_CELLS, c)
 }
 
 /// The character of a pair of digits, the zone `z` and the number `n`.
 ///
 /// `None` for a pair that no character has; a writing instruction writes it as a blank with the write check on.
 /// Source: 1622 manual, card codes; the characters of `]`, `|` and `}`, and which pairs have none, are this project's own.
-#[tactic(auto, using(crate::proofs::PairTables::zone_cases))]
 pub fn punch_alpha(z: u8, n: u8) -> Option<u8>
     ensures { result ≡ punch_alpha z n }
 {
-    match (z, n) {
-        (0, 0) => Some(b' '),
-        (0, 3) => Some(b'.'),
-        (0, 4) => Some(b')'),
-        (0, 10) => Some(b'|'),
-        (0, 15) => Some(b'}'),
-        (1, 0) => Some(b'+'),
-        (1, 3) => Some(b'$'),
-        (1, 4) => Some(b'*'),
-        (2, 0) => Some(b'-'),
-        (2, 1) => Some(b'/'),
-        (2, 3) => Some(b','),
-        (2, 4) => Some(b'('),
-        (3, 3) => Some(b'='),
-        (3, 4) => Some(b'@'),
-        (4, 1..=9) => Some(b'A' + n - 1),
-        (5, 0) => Some(b']'),
-        (5, 1..=9) => Some(b'J' + n - 1),
-        (6, 2..=9) => Some(b'S' + n - 2),
-        (7, 0..=9) => Some(b'0' + n),
-        _ => None,
-    }
+    char_by(&PAIR_CHARS, z, n)
 }
 
 /// The character that two digits are written as, once both were read. Their flags are ignored.
@@ -87,4 +44,28 @@ pub fn char_of_pair(zone: Digit, number: Digit, panel: &mut Panel) -> u8
             b' '
         }
     }
+}
+
+// The two digits of a character by a table of the cells of pairs, where it has a pair.
+#[inline(always)]
+fn pair_by(table: &[u16; 256], c: u8) -> Option<(u8, u8)>
+    ensures { result ≡ pair_entry table.now c }
+{
+    let pair = table[c as usize];
+    if pair >= NO_PAIR {
+        return None;
+    }
+    Some(((pair % 16) as u8, (pair / 64 % 16) as u8))
+}
+
+// The character of a zone and a number by a table, where there is one.
+#[inline(always)]
+fn char_by(table: &[u8; 128], z: u8, n: u8) -> Option<u8>
+    ensures { result ≡ pair_char_entry table.now z n }
+{
+    if z >= 8 || n >= 16 {
+        return None;
+    }
+    let char = table[(16 * z + n) as usize];
+    if char < NO_CHAR { Some(char) } else { None }
 }

@@ -3,80 +3,10 @@
 ghost use Rattle.std.specs.Prelude.{◌≡◌, MatchOption, length};
 ghost use Rattle.card_code.specs.Characters.{num_of, object_digit, object_char, punch_num};
 ghost use Rattle.digit_core.specs.Within.{HasBad};
-ghost use Rattle.card_code.specs.Words.{AreCells, HasNoDigit, AreSixes, AreEntries, HasNoEntry, AreChars, AreCharEntries, HasNoChar};
+ghost use Rattle.card_code.specs.Words.{AreCells, HasNoDigit, AreSixes, AreEntries, HasNoEntry, AreChars, PutsChars, PutsEntries};
 
+use crate::tables::{NO_CHAR, NUM_CELLS, OBJECT_CELLS, OBJECT_CHARS, PUNCH_CHARS};
 use digit_core::are_good;
-
-// The cell of each object character; 0, which is no good cell, for one that has none.
-const OBJECT_CELLS: [u8; 256] = [
-    // The bytes below the blank.
-    0, 0, 0, 0, 0, 0, 0, 0, 0, 0, 0, 0, 0, 0, 0, 0, 0, 0, 0, 0, 0, 0, 0, 0, 0, 0, 0, 0, 0, 0, 0, 0,
-    // The blank to `/`.
-    0, 26, 31, 0, 0, 0, 0, 0, 0, 0, 28, 0, 0, 0, 0, 0,
-    // `0` to `?`.
-    32, 1, 2, 35, 4, 37, 38, 7, 8, 41, 0, 0, 0, 0, 0, 0,
-    // `@` to `O`.
-    44, 0, 0, 0, 0, 0, 0, 0, 0, 0, 49, 50, 19, 52, 21, 22,
-    // `P` to `_`.
-    55, 56, 25, 0, 0, 0, 0, 0, 0, 0, 0, 0, 0, 16, 0, 0,
-    // The small letters, and `|` and `}`.
-    0, 0, 0, 0, 0, 0, 0, 0, 0, 0, 0, 0, 0, 0, 0, 0, 0, 0, 0, 0, 0, 0, 0, 0, 0, 0, 0, 0, 42, 47, 0,
-    0,
-    // The bytes from 128 on.
-    0, 0, 0, 0, 0, 0, 0, 0, 0, 0, 0, 0, 0, 0, 0, 0, 0, 0, 0, 0, 0, 0, 0, 0, 0, 0, 0, 0, 0, 0, 0, 0,
-    0, 0, 0, 0, 0, 0, 0, 0, 0, 0, 0, 0, 0, 0, 0, 0, 0, 0, 0, 0, 0, 0, 0, 0, 0, 0, 0, 0, 0, 0, 0, 0,
-    0, 0, 0, 0, 0, 0, 0, 0, 0, 0, 0, 0, 0, 0, 0, 0, 0, 0, 0, 0, 0, 0, 0, 0, 0, 0, 0, 0, 0, 0, 0, 0,
-    0, 0, 0, 0, 0, 0, 0, 0, 0, 0, 0, 0, 0, 0, 0, 0, 0, 0, 0, 0, 0, 0, 0, 0, 0, 0, 0, 0, 0, 0, 0, 0,
-];
-
-// The cell of each character that is read numerically, and 0 for a bad one.
-const NUM_CELLS: [u8; 256] = [
-    // The bytes below the blank.
-    0, 0, 0, 0, 0, 0, 0, 0, 0, 0, 0, 0, 0, 0, 0, 0, 0, 0, 0, 0, 0, 0, 0, 0, 0, 0, 0, 0, 0, 0, 0, 0,
-    // The blank to `/`.
-    32, 26, 31, 0, 0, 0, 0, 0, 0, 0, 28, 32, 0, 16, 0, 1,
-    // `0` to `?`.
-    32, 1, 2, 35, 4, 37, 38, 7, 8, 41, 0, 0, 0, 0, 0, 0,
-    // `@` to `O`.
-    44, 1, 2, 35, 4, 37, 38, 7, 8, 41, 49, 50, 19, 52, 21, 22,
-    // `P` to `_`.
-    55, 56, 25, 2, 35, 4, 37, 38, 7, 8, 41, 0, 0, 16, 0, 0,
-    // The small letters, and `|` and `}`.
-    0, 0, 0, 0, 0, 0, 0, 0, 0, 0, 0, 0, 0, 0, 0, 0, 0, 0, 0, 0, 0, 0, 0, 0, 0, 0, 0, 0, 42, 47, 0,
-    0,
-    // The bytes from 128 on.
-    0, 0, 0, 0, 0, 0, 0, 0, 0, 0, 0, 0, 0, 0, 0, 0, 0, 0, 0, 0, 0, 0, 0, 0, 0, 0, 0, 0, 0, 0, 0, 0,
-    0, 0, 0, 0, 0, 0, 0, 0, 0, 0, 0, 0, 0, 0, 0, 0, 0, 0, 0, 0, 0, 0, 0, 0, 0, 0, 0, 0, 0, 0, 0, 0,
-    0, 0, 0, 0, 0, 0, 0, 0, 0, 0, 0, 0, 0, 0, 0, 0, 0, 0, 0, 0, 0, 0, 0, 0, 0, 0, 0, 0, 0, 0, 0, 0,
-    0, 0, 0, 0, 0, 0, 0, 0, 0, 0, 0, 0, 0, 0, 0, 0, 0, 0, 0, 0, 0, 0, 0, 0, 0, 0, 0, 0, 0, 0, 0, 0,
-];
-
-// What a table has for a cell that has no character: it's past all characters.
-const NO_CHAR: u8 = 128;
-
-// The object character of each cell.
-const OBJECT_CHARS: [u8; 64] = [
-    // Unflagged, without the bit C.
-    128, 49, 50, 128, 52, 128, 128, 55, 56, 128, 128, 128, 128, 128, 128, 128,
-    // Flagged, without it.
-    93, 128, 128, 76, 128, 78, 79, 128, 128, 82, 33, 128, 42, 128, 128, 34,
-    // Unflagged, with it.
-    48, 128, 128, 51, 128, 53, 54, 128, 128, 57, 124, 128, 64, 128, 128, 125,
-    // Flagged, with it.
-    128, 74, 75, 128, 77, 128, 128, 80, 81, 128, 128, 128, 128, 128, 128, 128,
-];
-
-// The character that each cell's digit is punched as.
-const PUNCH_CHARS: [u8; 64] = [
-    // Unflagged, without the bit C.
-    128, 49, 50, 128, 52, 128, 128, 55, 56, 128, 128, 128, 128, 128, 128, 128,
-    // Flagged, without it.
-    93, 128, 128, 76, 128, 78, 79, 128, 128, 82, 33, 128, 42, 128, 128, 34,
-    // Unflagged, with it.
-    48, 128, 128, 51, 128, 53, 54, 128, 128, 57, 124, 128, 32, 128, 128, 125,
-    // Flagged, with it.
-    128, 74, 75, 128, 77, 128, 128, 80, 81, 128, 128, 128, 128, 128, 128, 128,
-];
 
 /// The word of the cells of ten object characters, the first as its lowest cell.
 ///
@@ -124,7 +54,25 @@ fn word_by(table: &[u8; 256], text: &[u8]) -> Option<u64>
 pub fn object_chars(word: u64) -> Option<[u8; 10]>
     ensures { MatchOption result (HasBad word) (AreChars object_char word) }
 {
-    chars_by(&OBJECT_CHARS, word)
+    let mut chars = [0; 10];
+    if put_object_chars(word, &mut chars) {
+        Some(chars)
+    } else {
+        None
+    }
+}
+
+/// Puts the object characters of a word's ten cells into a text of ten bytes, the lowest cell's first.
+///
+/// `false` where one of the cells is bad; then nothing is said of the text.
+/// Source: CPU manual, typewriter codes; the characters of flags and marks are this project's own.
+#[inline]
+pub fn put_object_chars(word: u64, into: &mut [u8]) -> bool
+    requires { length into.old ≡ 10 }
+    ensures puts { PutsChars object_char word into.new result }
+    ensures ten { length into.new ≡ 10 }
+{
+    put_by(&OBJECT_CHARS, word, into)
 }
 
 /// The characters that the digits of a word's ten cells are punched as, the lowest cell's first.
@@ -135,21 +83,37 @@ pub fn object_chars(word: u64) -> Option<[u8; 10]>
 pub fn punch_chars(word: u64) -> Option<[u8; 10]>
     ensures { MatchOption result (HasBad word) (AreChars punch_num word) }
 {
-    chars_by(&PUNCH_CHARS, word)
+    let mut chars = [0; 10];
+    if put_punch_chars(word, &mut chars) {
+        Some(chars)
+    } else {
+        None
+    }
 }
 
-// The characters of a word's ten cells by a table, where each has one.
+// Puts the characters that the digits of a word's ten cells are punched as into a text. Whether each cell is good.
 #[inline]
-fn chars_by(table: &[u8; 64], word: u64) -> Option<[u8; 10]>
-    ensures { MatchOption result (HasNoChar table.now word) (AreCharEntries table.now word) }
+fn put_punch_chars(word: u64, into: &mut [u8]) -> bool
+    requires { length into.old ≡ 10 }
+    ensures puts { PutsChars punch_num word into.new result }
+    ensures ten { length into.new ≡ 10 }
 {
-    let mut chars = [0; 10];
+    put_by(&PUNCH_CHARS, word, into)
+}
+
+// Puts the characters of a word's ten cells by a table into a text, the lowest cell's first. Whether each has one.
+#[inline]
+fn put_by(table: &[u8; 64], word: u64, into: &mut [u8]) -> bool
+    requires { length into.old ≡ 10 }
+    ensures puts { PutsEntries table.now word into.new result }
+    ensures ten { length into.new ≡ 10 }
+{
     // All characters' bits together.
     let mut bits = 0;
     for j in 0..10 {
         let char = table[((word >> (6 * j)) % 64) as usize];
         bits |= char;
-        chars[j] = char;
+        into[j] = char;
     }
-    if bits < NO_CHAR { Some(chars) } else { None }
+    bits < NO_CHAR
 }

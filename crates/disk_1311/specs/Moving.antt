@@ -10,6 +10,11 @@ use Rattle.disk_1311.specs.DiskCalls.{DiskMoment, DoneBetween, panel_left}
 use Rattle.disk_1311.specs.declared.DiskIo.{DiskIo}
 use Rattle.disk_1311.specs.declared.DiskIo.TheVariants as io
 
+-- a text that was put together, or the stop that ended it
+abbrev pub text_or_stop : List ℕ → Result ⊤ Stop → Result (List ℕ) Stop
+text_or_stop text (Ok u) = Ok text
+text_or_stop text (Err why) = Err why
+
 -- one sector was moved, over a whole text that is the told sector's where the sectors are told
 pub record MovedSector (t : List ℕ → Trace DiskEffect ⊤ Stop) (sector : ℕ) (old new : DiskMoment)
     (r : Result ⊤ Stop) : Type 0 where

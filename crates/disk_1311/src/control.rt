@@ -78,7 +78,6 @@ pub(crate) fn control_field<const M: u32>(
     ensures count { IfOk result (λ c. c.count ≤ 999) }
     ensures address { IfOk result (λ c. c.address ≤ 99999) }
 {
-    // For the check alone, which learns core's length from it: the compiler drops it.
     core.size_law();
     let mut digits = [0; CONTROL_LENGTH];
     for k in 0..CONTROL_LENGTH {

@@ -9,11 +9,11 @@ ghost use Rattle.card_code.specs.Characters.{object_digit, object_char};
 ghost use Rattle.disk_1311.specs.Sector.{read_sector, compare_sector, differs};
 ghost use Rattle.disk_1311.specs.Disk.{move_sector};
 ghost use Rattle.disk_1311.specs.DiskCalls.{disk_moment};
-ghost use Rattle.disk_1311.specs.Moving.{MovesSector};
+ghost use Rattle.disk_1311.specs.Moving.{MovesSector, text_or_stop};
 
 use crate::{DiskIo, DiskKind};
 use addr_indirect::{Stop, read_at};
-use card_code::{object_char, object_chars, object_digit, object_word};
+use card_code::{object_char, object_digit, object_word, put_object_chars};
 use digit_core::{Core, Digit};
 use indicators::{DISK_LENGTH, Panel};
 use outside_io::{Drive, Host, SECTOR_LENGTH};
@@ -42,29 +42,37 @@ pub(crate) fn move_sector<const M: u32, H: Host>(
         let after = disk_moment core.new panel.new (H.seen host.new) in
         MovesSector (move_sector kind core.old a sector) sector before after result }
 {
-    let mut bytes = [0; SECTOR_LENGTH];
     match kind {
-        DiskKind::Rdgn | DiskKind::Rdn => match host.read_sector(sector, &mut bytes) {
-            Drive::Done => {
-                read_sector(core, a, &bytes, panel);
-                DiskIo::Done
-            }
-            Drive::Failed => DiskIo::Failed,
-        },
-        DiskKind::Cdgn | DiskKind::Cdn => match host.read_sector(sector, &mut bytes) {
-            Drive::Done => match compare_sector(core, a, &bytes, panel) {
-                Ok(()) => DiskIo::Done,
-                Err(stop) => DiskIo::Stop(stop),
-            },
-            Drive::Failed => DiskIo::Failed,
-        },
-        DiskKind::Wdgn | DiskKind::Wdn => match sector_text(core, a) {
-            Ok(text) => match host.write_sector(sector, &text) {
-                Drive::Done => DiskIo::Done,
+        DiskKind::Rdgn | DiskKind::Rdn => {
+            let mut bytes = [0; SECTOR_LENGTH];
+            match host.read_sector(sector, &mut bytes) {
+                Drive::Done => {
+                    read_sector(core, a, &bytes, panel);
+                    DiskIo::Done
+                }
                 Drive::Failed => DiskIo::Failed,
-            },
-            Err(stop) => DiskIo::Stop(stop),
-        },
+            }
+        }
+        DiskKind::Cdgn | DiskKind::Cdn => {
+            let mut bytes = [0; SECTOR_LENGTH];
+            match host.read_sector(sector, &mut bytes) {
+                Drive::Done => match compare_sector(core, a, &bytes, panel) {
+                    Ok(()) => DiskIo::Done,
+                    Err(stop) => DiskIo::Stop(stop),
+                },
+                Drive::Failed => DiskIo::Failed,
+            }
+        }
+        DiskKind::Wdgn | DiskKind::Wdn => {
+            let mut bytes = [0; SECTOR_LENGTH];
+            match sector_text(core, a, &mut bytes) {
+                Ok(()) => match host.write_sector(sector, &bytes) {
+                    Drive::Done => DiskIo::Done,
+                    Drive::Failed => DiskIo::Failed,
+                },
+                Err(stop) => DiskIo::Stop(stop),
+            }
+        }
     }
 }
 
@@ -78,7 +86,6 @@ fn read_sector<const M: u32>(
     requires { a + 100 ≤ size M }
     ensures { Changed core.old panel.old (read_sector a bytes.now) core.new panel.new (Ok tt) }
 {
-    // For the check alone, which learns core's length from it: the compiler drops it.
     core.size_law();
     let i = a / 10;
     let j = a % 10;
@@ -97,7 +104,6 @@ fn read_ten<const M: u32>(core: &mut Core<M>, i: u32, j: u32, bytes: &[u8], pane
         (read_sector (10 * i + j) bytes.now)
         core.new panel.new (Ok tt) }
 {
-    // For the check alone, which learns core's length from it: the compiler drops it.
     core.size_law();
     match object_word(bytes) {
         Some(word) => core.put_ten_digits_of(i, j, word),
@@ -112,7 +118,6 @@ fn read_bytes<const M: u32>(core: &mut Core<M>, a: u32, bytes: &[u8], panel: &mu
     requires room { a + length bytes.now ≤ size M }
     ensures { Changed core.old panel.old (read_sector a bytes.now) core.new panel.new (Ok tt) }
 {
-    // For the check alone, which learns core's length from it: the compiler drops it.
     core.size_law();
     for (k, byte) in bytes.iter().enumerate() {
         let at = a + k as u32;
@@ -138,7 +143,6 @@ fn compare_sector<const M: u32>(
         (compare_sector core.now a bytes.now)
         core.now panel.new result }
 {
-    // For the check alone, which learns core's length from it: the compiler drops it.
     core.size_law();
     let i = a / 10;
     let j = a % 10;
@@ -164,7 +168,6 @@ fn compare_ten<const M: u32>(
         (compare_sector core.now (10 * i + j) bytes.now)
         core.now panel.new result }
 {
-    // For the check alone, which learns core's length from it: the compiler drops it.
     core.size_law();
     if let Some(word) = object_word(bytes) {
         if word == core.ten_of(i, j) {
@@ -188,7 +191,6 @@ fn compare_bytes<const M: u32>(
         (compare_sector core.now a bytes.now)
         core.now panel.new result }
 {
-    // For the check alone, which learns core's length from it: the compiler drops it.
     core.size_law();
     for (k, byte) in bytes.iter().enumerate() {
         let digit = read_at(core, a + k as u32)?;
@@ -206,26 +208,26 @@ fn differs(digit: Digit, byte: u8) -> bool
     object_digit(byte) != Some(digit)
 }
 
-// The characters of the cells from `a` upwards, by one word where ten are good.
-fn sector_text<const M: u32>(core: &Core<M>, a: u32) -> Result<[u8; SECTOR_LENGTH], Stop>
+// Puts the characters of the cells from `a` upwards into the text, by one word where ten are good.
+fn sector_text<const M: u32>(
+    core: &Core<M>,
+    a: u32,
+    text: &mut [u8; SECTOR_LENGTH],
+) -> Result<(), Stop>
     requires { a + 100 ≤ size M }
-    ensures { result ≡ map_answer (map object_char) (read_up core.now a 100) }
+    ensures { text_or_stop text.new result ≡ map_answer (map object_char) (read_up core.now a 100) }
 {
-    // For the check alone, which learns core's length from it: the compiler drops it.
     core.size_law();
-    let mut text = [0; SECTOR_LENGTH];
     let i = a / 10;
     let j = a % 10;
     for k in 0..TENS {
-        match object_chars(core.ten_of(i + k as u32, j)) {
-            Some(chars) => text[10 * k..10 * k + 10].copy_from_slice(&chars),
-            None => {
-                let chars = cell_chars(core, a + 10 * k as u32)?;
-                text[10 * k..10 * k + 10].copy_from_slice(&chars);
-            }
+        let word = core.ten_of(i + k as u32, j);
+        if !put_object_chars(word, &mut text[10 * k..10 * k + 10]) {
+            let chars = cell_chars(core, a + 10 * k as u32)?;
+            text[10 * k..10 * k + 10].copy_from_slice(&chars);
         }
     }
-    Ok(text)
+    Ok(())
 }
 
 // The characters of ten cells from `a` upwards, one by one.
@@ -235,7 +237,6 @@ fn cell_chars<const M: u32>(core: &Core<M>, a: u32) -> Result<[u8; 10], Stop>
     requires { a + 10 ≤ size M }
     ensures { result ≡ map_answer (map object_char) (read_up core.now a 10) }
 {
-    // For the check alone, which learns core's length from it: the compiler drops it.
     core.size_law();
     let mut chars = [0; 10];
     for k in 0..10 {

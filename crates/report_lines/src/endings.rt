@@ -1,4 +1,5 @@
 // The lines of a run's end.
+// Source: this project's own.
 ghost use Rattle.std.specs.Prelude.{◌≡◌};
 ghost use Rattle.report_lines.specs.Endings.{halt_line, check_line, limit_line, need_cards_line, need_keys_line, jam_line};
 
@@ -11,8 +12,6 @@ use outside_io::Unit;
 
 /// The line of a halt, with its LF: `HALT`, the address of the halt instruction in five digits, `STEPS` and the count of executed
 /// instructions.
-///
-/// Source: this project's own.
 pub fn halt_line(at: u32, steps: u64) -> ArrayString<LONGEST_LINE>
     ensures { result.bytes ≡ halt_line at steps }
 {
@@ -21,8 +20,6 @@ pub fn halt_line(at: u32, steps: u64) -> ArrayString<LONGEST_LINE>
 
 /// The line of a check stop, with its LF: `CHECK`, the stop's number in two digits, the address of the instruction in five digits,
 /// `STEPS` and the count of executed instructions.
-///
-/// Source: this project's own.
 pub fn check_line(kind: Stop, at: u32, steps: u64) -> ArrayString<LONGEST_LINE>
     ensures { result.bytes ≡ check_line kind at steps }
 {
@@ -35,8 +32,6 @@ pub fn check_line(kind: Stop, at: u32, steps: u64) -> ArrayString<LONGEST_LINE>
 }
 
 /// The line of a run that reached its limit, with its LF: `LIMIT STEPS` and the count of executed instructions.
-///
-/// Source: this project's own.
 pub fn limit_line(steps: u64) -> ArrayString<LONGEST_LINE>
     ensures { result.bytes ≡ limit_line steps }
 {
@@ -45,8 +40,6 @@ pub fn limit_line(steps: u64) -> ArrayString<LONGEST_LINE>
 
 /// The line of a run without a card left to be read, with its LF: `NEED CARDS`, the address of the instruction in five digits, `STEPS`
 /// and the count of executed instructions.
-///
-/// Source: this project's own.
 pub fn need_cards_line(at: u32, steps: u64) -> ArrayString<LONGEST_LINE>
     ensures { result.bytes ≡ need_cards_line at steps }
 {
@@ -55,8 +48,6 @@ pub fn need_cards_line(at: u32, steps: u64) -> ArrayString<LONGEST_LINE>
 
 /// The line of a run without a line of the keyboard left to be read, with its LF: `NEED KEYS`, the address of the instruction in five
 /// digits, `STEPS` and the count of executed instructions.
-///
-/// Source: this project's own.
 pub fn need_keys_line(at: u32, steps: u64) -> ArrayString<LONGEST_LINE>
     ensures { result.bytes ≡ need_keys_line at steps }
 {
@@ -66,7 +57,6 @@ pub fn need_keys_line(at: u32, steps: u64) -> ArrayString<LONGEST_LINE>
 /// The line of an input's line that is too long, with its LF: `JAM`, the unit's name and the line's number.
 ///
 /// `number` counts the unit's lines from 1.
-/// Source: this project's own.
 pub fn jam_line(unit: Unit, number: u64) -> ArrayString<LONGEST_LINE>
     ensures { result.bytes ≡ jam_line unit number }
 {

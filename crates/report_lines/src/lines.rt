@@ -1,4 +1,5 @@
 // Whole lines of a text and what stands behind it.
+// Source: this project's own.
 ghost use Rattle.std.specs.Prelude.{◌≡◌, ◌≤◌, ◌+◌, ◌++◌, length};
 ghost use Rattle.report_lines.specs.Numbers.{with_line_feed, at_count, at_steps};
 ghost use Rattle.report_lines.specs.Units.{unit_name};
@@ -12,7 +13,6 @@ use outside_io::Unit;
 /// The line of a text, with its LF.
 ///
 /// The text has at most 89 bytes.
-/// Source: this project's own.
 pub fn text_line(text: &str) -> ArrayString<LONGEST_LINE>
     requires { length text.now + 1 ≤ LONGEST_LINE }
     ensures { result.bytes ≡ with_line_feed text.now }
@@ -26,7 +26,6 @@ pub fn text_line(text: &str) -> ArrayString<LONGEST_LINE>
 /// The line of a text and a count, with its LF.
 ///
 /// The text has at most 69 bytes, the blank before the count included.
-/// Source: this project's own.
 pub fn counted_line(text: &str, n: u64) -> ArrayString<LONGEST_LINE>
     requires { length text.now + 21 ≤ LONGEST_LINE }
     ensures { result.bytes ≡ text.now ++ at_count n }
@@ -40,7 +39,6 @@ pub fn counted_line(text: &str, n: u64) -> ArrayString<LONGEST_LINE>
 /// The line of a text, an address in five digits, and a count of steps, with its LF.
 ///
 /// The text has at most 52 bytes, the blank before the address included.
-/// Source: this project's own.
 pub fn steps_line(text: &str, at: u32, steps: u64) -> ArrayString<LONGEST_LINE>
     requires { length text.now + 38 ≤ LONGEST_LINE }
     ensures { result.bytes ≡ text.now ++ at_steps at steps }
@@ -54,7 +52,6 @@ pub fn steps_line(text: &str, at: u32, steps: u64) -> ArrayString<LONGEST_LINE>
 /// The line of a text and a unit's name, with its LF.
 ///
 /// The text has at most 81 bytes, the blank before the name included.
-/// Source: this project's own.
 pub fn unit_line(text: &str, unit: Unit) -> ArrayString<LONGEST_LINE>
     requires { length text.now + 9 ≤ LONGEST_LINE }
     ensures { result.bytes ≡ text.now ++ with_line_feed (unit_name unit) }

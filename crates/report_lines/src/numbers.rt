@@ -1,4 +1,5 @@
 // Numbers in lines.
+// Source: this project's own.
 ghost use Rattle.std.specs.Prelude.{◌≡◌, ◌≤◌, ◌+◌, ◌++◌, length, decimal};
 ghost use Rattle.arrayvec.specs.ArrayString.{array_string_len};
 ghost use Rattle.report_lines.specs.Numbers.{digits_to_width, zero_filled, at_count, at_steps};
@@ -8,14 +9,11 @@ use arrayvec::ArrayString;
 use itoa::Buffer;
 
 /// Room for the longest line that is built whole, with its LF: 90 bytes.
-///
-/// Source: this project's own.
 pub const LONGEST_LINE: usize = 90;
 
 /// Adds a number in at least so many digits: zeros fill up at the left.
 ///
 /// The line has room for ten bytes more, and `width` is at most 10. At most ten bytes are added.
-/// Source: this project's own.
 pub fn push_padded(line: &mut ArrayString<LONGEST_LINE>, width: usize, n: u32)
     requires room { array_string_len line.old + 10 ≤ LONGEST_LINE }
     requires width { width ≤ 10 }
@@ -29,7 +27,6 @@ pub fn push_padded(line: &mut ArrayString<LONGEST_LINE>, width: usize, n: u32)
 /// Adds a number in at least five digits: zeros fill up at the left.
 ///
 /// The line has room for twenty bytes more. At most twenty bytes are added.
-/// Source: this project's own.
 pub fn push_long(line: &mut ArrayString<LONGEST_LINE>, n: u64)
     requires room { array_string_len line.old + 20 ≤ LONGEST_LINE }
     ensures bytes { line.new.bytes ≡ line.old.bytes ++ digits_to_width 5 n }
@@ -55,7 +52,6 @@ fn push_filled(line: &mut ArrayString<LONGEST_LINE>, width: usize, digits: &str)
 /// Adds a number in as many digits as it needs.
 ///
 /// The line has room for ten bytes more. At most ten bytes are added.
-/// Source: this project's own.
 pub fn push_number(line: &mut ArrayString<LONGEST_LINE>, n: u32)
     requires { array_string_len line.old + 10 ≤ LONGEST_LINE }
     ensures bytes { line.new.bytes ≡ line.old.bytes ++ decimal n }
@@ -68,7 +64,6 @@ pub fn push_number(line: &mut ArrayString<LONGEST_LINE>, n: u32)
 /// Adds a count in as many digits as it needs, and the line's end.
 ///
 /// The line has room for 21 bytes more.
-/// Source: this project's own.
 pub fn push_count(line: &mut ArrayString<LONGEST_LINE>, n: u64)
     requires { array_string_len line.old + 21 ≤ LONGEST_LINE }
     ensures { line.new.bytes ≡ line.old.bytes ++ at_count n }
@@ -81,7 +76,6 @@ pub fn push_count(line: &mut ArrayString<LONGEST_LINE>, n: u64)
 /// Adds an address in five digits, ` STEPS ` and a count of steps, and the line's end.
 ///
 /// The line has room for 38 bytes more.
-/// Source: this project's own.
 pub fn push_at_steps(line: &mut ArrayString<LONGEST_LINE>, at: u32, steps: u64)
     requires { array_string_len line.old + 38 ≤ LONGEST_LINE }
     ensures { line.new.bytes ≡ line.old.bytes ++ at_steps at steps }

@@ -1,4 +1,5 @@
 // The keyboard.
+// Source: this project's own.
 ghost use Rattle.std.specs.Prelude.{◌≡◌, ◌≤◌, length, take};
 ghost use Rattle.outside_io.specs.declared.host.Unit.TheVariants as units;
 ghost use Rattle.outside_io.specs.World.{World};
@@ -10,8 +11,6 @@ use outside_io::{Host, Unit};
 use read_checks::{ReadAs, Tally};
 
 /// The keyboard: the lines of the unit Keys that are still to be read. It remembers how many were read, and their bad characters.
-///
-/// Source: this project's own.
 #[derive(Drop)]
 pub struct Keyboard {
     lines: Lines,
@@ -24,8 +23,6 @@ impl Keyboard {
     ghost use Rattle.typewriter.specs.Keys.{keys_left, NextLine, HoldsLine, AsksNeeded, Begins, TakesReading, lines_read, bad_keys, read_after};
 
     /// The keyboard before all lines that the unit Keys has left. It asks for none of them yet, and has read none.
-    ///
-    /// Source: this project's own.
     pub fn new() -> Keyboard
         ensures lines { (w : World) → keys_left result w ≡ unit_entries units.Keys w }
         ensures begins { Begins result }
@@ -39,8 +36,6 @@ impl Keyboard {
 
     /// How many lines were read since the keyboard was made: those that [`crate::read_num`] and [`crate::read_alpha`] have taken, also where
     /// these stopped then. The line that was read last has this number in the unit Keys. The count stands still at its end, 2^64 - 1.
-    ///
-    /// Source: this project's own.
     pub fn lines_read(&self) -> u64
         ensures { result ≡ lines_read self.now }
     {
@@ -51,7 +46,6 @@ impl Keyboard {
     ///
     /// The machine stores zeros for a bad character and turns the read check 06 on; which character it was is told here alone. It stays told
     /// when 06 goes off.
-    /// Source: this project's own.
     pub fn bad_characters(&self) -> Tally
         ensures { result ≡ bad_keys self.now }
     {

@@ -1,7 +1,7 @@
 -- By the table of cells of characters that are read numerically.
 use Rattle.std.proofs.Common.{rules}
 use Rattle.card_code.specs.Characters.{num_of}
-use Rattle.card_code.specs.declared.words.TheConstants.{NUM_CELLS}
+use Rattle.card_code.specs.declared.tables.TheConstants.{NUM_CELLS}
 use Rattle.card_code.proofs.CellTables.{cells_by_table, num_cells, num_sixes}
 use Rattle.card_code.proofs.words.num_word.Goals as goal
 

@@ -1,7 +1,7 @@
 -- By the table of object characters' cells.
 use Rattle.std.proofs.Common.{rules}
 use Rattle.card_code.specs.Characters.{object_digit}
-use Rattle.card_code.specs.declared.words.TheConstants.{OBJECT_CELLS}
+use Rattle.card_code.specs.declared.tables.TheConstants.{OBJECT_CELLS}
 use Rattle.card_code.proofs.CellTables.{cells_by_table, object_cells, object_sixes}
 use Rattle.card_code.proofs.words.object_word.Goals as goal
 
