@@ -13,6 +13,7 @@ pub mod InputsTaken
 pub mod Fielded
 pub mod Knowing
 pub mod Placed
+pub mod FurtherCells
 pub mod Quick
 pub mod FieldStores
 pub mod SumStores

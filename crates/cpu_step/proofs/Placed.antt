@@ -61,7 +61,7 @@ module _ (j : ℕ) (few : j ≤ 10) where
   up_to_others i past = ap (λ x. six x i) up_to_is ∙ six_past (whole % 2 ^ (6 * j)) j i (mod_below whole (2 ^ (6 * j)) (pow_pos (6 * j))) past
 
 -- a cell of which a mask has all bits
-kept : (x mask j : ℕ) → six mask j ≡ 63 → six (bit_and x mask) j ≡ six x j
+pub kept : (x mask j : ℕ) → six mask j ≡ 63 → six (bit_and x mask) j ≡ six x j
 kept x mask j all =
     let m : six x j % 2 ^ 6 ≡ six x j = omega arith in
     six_and x mask j ∙ ap (λ z. bit_and (six x j) z) all ∙ and_mask (six x j) 6 ∙ m

@@ -32,7 +32,7 @@ impl<const M: u32> Machine<M> {
         requires operands { HoldOperands (uses row) self.old.core self.old.regs.ir fields }
         ensures { Acts M (act row) self.old self.new (H.seen host.old) (H.seen host.new) result }
     {
-        match fields.operands(&self.core, self.regs.ir) {
+        match self.memo.operands(fields, &self.core, self.regs.ir) {
             Ok(o) => self.action(row, o, host),
             Err(stop) => Outcome::Stops(stop),
         }
@@ -91,7 +91,6 @@ impl<const M: u32> Machine<M> {
         requires regs { regs ≡ on_at self.old.regs (self.old.regs.ir + 12) }
         ensures { Acts M (on_console row p) self.old self.new (H.seen host.old) (H.seen host.new) result }
     {
-        // For the check alone, which learns core's length from it: the compiler drops it.
         self.core.size_law();
         let Machine {
             core,
@@ -128,7 +127,6 @@ impl<const M: u32> Machine<M> {
         requires regs { regs ≡ on_at self.old.regs (self.old.regs.ir + 12) }
         ensures { Acts M (on_cards row p) self.old self.new (H.seen host.old) (H.seen host.new) result }
     {
-        // For the check alone, which learns core's length from it: the compiler drops it.
         self.core.size_law();
         let Machine {
             core,
@@ -158,7 +156,6 @@ impl<const M: u32> Machine<M> {
         requires regs { regs ≡ on_at self.old.regs (self.old.regs.ir + 12) }
         ensures { Acts M (on_disk row p) self.old self.new (H.seen host.old) (H.seen host.new) result }
     {
-        // For the check alone, which learns core's length from it: the compiler drops it.
         self.core.size_law();
         let Machine {
             core,
@@ -180,7 +177,6 @@ impl<const M: u32> Machine<M> {
         requires { self.now.regs.ir + 12 ≤ size M }
         ensures { result ≡ on_at self.now.regs (self.now.regs.ir + 12) }
     {
-        // For the check alone, which learns core's length from it: the compiler drops it.
         self.core.size_law();
         Regs {
             ir: self.regs.ir + 12,

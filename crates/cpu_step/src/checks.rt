@@ -168,7 +168,6 @@ fn p_or_part<const M: u32>(core: &Core<M>, ir: u32, uses: Uses) -> Result<u32, C
     ensures is { result ≡ p_or_part uses core.now ir }
     ensures in_core { IfOk result (λ p. p < size M) }
 {
-    // For the check alone, which learns core's length from it: the compiler drops it.
     core.size_law();
     match uses {
         Uses::Neither => Ok(0),
@@ -185,7 +184,6 @@ fn q_or_part<const M: u32>(core: &Core<M>, ir: u32, uses: Uses) -> Result<u32, C
     ensures is { result ≡ q_or_part uses core.now ir }
     ensures in_core { IfOk result (λ q. q < size M) }
 {
-    // For the check alone, which learns core's length from it: the compiler drops it.
     core.size_law();
     match uses {
         Uses::Both | Uses::OddBoth => match q_operand(core, ir) {
@@ -219,7 +217,6 @@ fn p_part<const M: u32>(core: &Core<M>, ir: u32) -> CheckPart
     requires { ir + 12 ≤ size M }
     ensures { result ≡ p_part core.now ir }
 {
-    // For the check alone, which learns core's length from it: the compiler drops it.
     core.size_law();
     CheckPart::P {
         units: chain_end(core, ir + 6),
@@ -231,7 +228,6 @@ fn q_part<const M: u32>(core: &Core<M>, ir: u32) -> CheckPart
     requires { ir + 12 ≤ size M }
     ensures { result ≡ q_part core.now ir }
 {
-    // For the check alone, which learns core's length from it: the compiler drops it.
     core.size_law();
     CheckPart::Q {
         units: chain_end(core, ir + 11),
@@ -281,7 +277,7 @@ fn field_after<const M: u32>(core: &Core<M>, u: u32) -> Option<u32>
 
 // The number of the five digits from `u` downwards, `u` the units.
 #[tactic(auto, unfolding(addr_indirect::specs::Operand::number))]
-fn five_digits<const M: u32>(core: &Core<M>, u: u32) -> Result<u32, Stop>
+pub(crate) fn five_digits<const M: u32>(core: &Core<M>, u: u32) -> Result<u32, Stop>
     requires { 4 ≤ u }
     ensures { result ≡ number core.now u 5 }
 {
@@ -362,7 +358,6 @@ fn field_length<const M: u32>(core: &Core<M>, p: u32) -> u32
     ensures is { result ≡ field_length core.now p }
     ensures in_core { result ≤ p + 1 }
 {
-    // For the check alone, which learns core's length from it: the compiler drops it.
     core.size_law();
     let flag = core.flag_below(p).unwrap_or(0);
     p.saturating_sub(flag) + 1
@@ -404,7 +399,6 @@ fn over_nine_up<const M: u32>(core: &Core<M>, a: u32, n: u32) -> Option<u32>
     requires { a + n ≤ size M }
     ensures { result ≡ first_up is_over_nine core.now a n }
 {
-    // For the check alone, which learns core's length from it: the compiler drops it.
     core.size_law();
     for k in 0..n {
         if is_over_nine(core, a + k) {

@@ -6,6 +6,7 @@ ghost use Rattle.cpu_step.specs.Fields.{decimal_part, field_from, fields_used, i
 ghost use Rattle.cpu_step.specs.Operands.{operands};
 ghost use Rattle.addr_indirect.specs.Fetch.{fetch};
 
+use crate::further::FurtherFields;
 use crate::rows::{Operands, Uses};
 use addr_indirect::{Instr, LOWEST_UNITS, Stop, further, immediate_q};
 use digit_core::Core;
@@ -109,6 +110,54 @@ impl Fields {
             Ok(Operands { p, q })
         }
     }
+
+    // The same by what is known of further fields.
+    #[inline(always)]
+    pub(crate) fn operands_by<const M: u32>(
+        self,
+        known: &mut FurtherFields<M>,
+        core: &Core<M>,
+        ir: u32,
+    ) -> Result<Operands, Stop>
+        requires { ir + 12 ≤ size M }
+        ensures from { result ≡ operands_from self core.now ir }
+        ensures p { IfOk result (λ o. o.p < size M) }
+        ensures q { IfOk result (λ o. o.q < size M) }
+    {
+        let p = operand_by(known, core, ir, self.p_kind, self.p)?;
+        let q = operand_by(known, core, ir, self.q_kind, self.q)?;
+        if self.odd && p % 2 == 0 {
+            Err(Stop::EvenAlpha)
+        } else {
+            Ok(Operands { p, q })
+        }
+    }
+}
+
+// The operand that a field with the number `v` holds, of the instruction at `ir`, by what is known of further fields.
+#[inline(always)]
+fn operand_by<const M: u32>(
+    known: &mut FurtherFields<M>,
+    core: &Core<M>,
+    ir: u32,
+    kind: FieldKind,
+    v: u32,
+) -> Result<u32, Stop>
+    requires { ir + 12 ≤ size M }
+    ensures is { result ≡ operand_from core.now ir kind v }
+    ensures in_core { IfOk result (λ a. a < size M) }
+{
+    core.size_law();
+    match kind {
+        FieldKind::Chain => {
+            if v >= LOWEST_UNITS && v < core.size() {
+                known.further(core, v)
+            } else {
+                Err(Stop::Address)
+            }
+        }
+        _ => operand(core, ir, kind, v),
+    }
 }
 
 // The operand that a field with the number `v` holds, of the instruction at `ir`: a chain is followed through this core.
@@ -118,7 +167,6 @@ fn operand<const M: u32>(core: &Core<M>, ir: u32, kind: FieldKind, v: u32) -> Re
     ensures is { result ≡ operand_from core.now ir kind v }
     ensures in_core { IfOk result (λ a. a < size M) }
 {
-    // For the check alone, which learns core's length from it: the compiler drops it.
     core.size_law();
     match kind {
         FieldKind::Immediate => Ok(immediate_q(ir)),

@@ -21,7 +21,6 @@ impl<const M: u32> Machine<M> {
     pub fn load_key<H: Host>(&mut self, host: &mut H) -> Turned
         ensures { LoadsKey M self.old self.new (H.seen host.old) (H.seen host.new) result }
     {
-        // For the check alone, which learns core's length from it: the compiler drops it.
         self.core.size_law();
         self.panel.clear_for_load();
         self.regs.ir = 0;
@@ -60,7 +59,6 @@ impl<const M: u32> Machine<M> {
         ensures reads_on { ReadsOn self.old.hopper self.new.hopper (H.seen host.old) (H.seen host.new) }
         ensures reads { ReadsCard M p self.old self.new (H.seen host.old) (H.seen host.new) result }
     {
-        // For the check alone, which learns core's length from it: the compiler drops it.
         self.core.size_law();
         read_num(&mut self.core, p, &mut self.panel, &mut self.hopper, host)
     }

@@ -131,7 +131,7 @@ impl<const M: u32> Machine<M> {
             hopper,
             keys: Keyboard::new(),
             mode: Mode::Halted { at: 0 },
-            memo: Memo::new(),
+            memo: Memo::new(alloc)?,
         })
     }
 

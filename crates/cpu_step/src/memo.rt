@@ -1,16 +1,19 @@
 // What instructions came to before.
-ghost use Rattle.std.specs.Prelude.{ℕ, ◌≡◌, ◌+◌, ◌≤◌, ◌<◌, ◌%◌, ◌^◌, length, IfSome, None, Some, true};
+ghost use Rattle.std.specs.Prelude.{ℕ, ◌≡◌, ◌+◌, ◌≤◌, ◌<◌, ◌%◌, ◌^◌, length, IfOk, IfSome, None, Some, true};
 ghost use Rattle.digit_core.specs.Size.{IsSize, size};
 ghost use Rattle.digit_core.specs.Packed.{six, ten_across};
 ghost use Rattle.branch_ops.specs.Branch.{tested_code};
 ghost use Rattle.branch_ops.specs.Carried.{branch_in};
+ghost use Rattle.cpu_step.specs.Fields.{operands_from};
 ghost use Rattle.cpu_step.specs.Known.{AreGood, AreKnown, IsKnown, IsPlace, branch_uses, instr_at, two_from};
 
 use crate::fields::Fields;
-use crate::rows::{Row, Uses, row_of};
-use addr_indirect::Instr;
+use crate::further::FurtherFields;
+use crate::rows::{Operands, Row, Uses, row_of};
+use addr_indirect::{Instr, Stop};
 use branch_ops::{BranchOp, BranchUses, branch_of};
 use digit_core::{Core, are_good, are_good_at, digit_in, ones_below, ten_across};
+use std::alloc::{AllocError, Global};
 
 // What twelve cells come to.
 #[derive(Clone, Copy)]
@@ -49,8 +52,8 @@ pub(crate) enum Known {
 #[derive(Clone, Copy)]
 struct KnownEntry<const M: u32> {
     ir: u32,
-    // The number of the lower word.
-    word: u32,
+    // The number of the lower word. It is narrow, so that the compiler sees that one more fits into 32 bits, and makes no sum of it.
+    word: u16,
     low_mask: u64,
     low: u64,
     high_mask: u64,
@@ -84,11 +87,10 @@ impl<const M: u32> KnownEntry<M> {
     fn is_at(&self, core: &Core<M>, ir: u32) -> bool
         ensures { result ≡ true → Comes core.now ir self.now.known }
     {
-        // For the check alone, which learns core's length from it: the compiler drops it.
         core.size_law();
         self.ir == ir
-            && core.word(self.word) & self.low_mask == self.low
-            && core.word(self.word + 1) & self.high_mask == self.high
+            && core.word(self.word as u32) & self.low_mask == self.low
+            && core.word(self.word as u32 + 1) & self.high_mask == self.high
     }
 
     // Decodes the instruction at `ir` and keeps it. What is at an odd address, or not wholly in core, is `Other` and isn't kept.
@@ -111,7 +113,7 @@ impl<const M: u32> KnownEntry<M> {
         let known = decode(ten_across(low, high, j), high >> (6 * j), core, ir);
         *self = KnownEntry {
             ir,
-            word,
+            word: word as u16,
             low_mask,
             low,
             high_mask,
@@ -125,7 +127,7 @@ impl<const M: u32> KnownEntry<M> {
 const TEN_CELLS: u64 = 0x0fff_ffff_ffff_ffff;
 
 // A mask of all bits of a word's cells from number `j` on.
-fn mask_from(j: u32) -> u64
+pub(crate) fn mask_from(j: u32) -> u64
     requires { j < 10 }
     ensures named { (i : ℕ) → j ≤ i → i < 10 → six result i ≡ 63 }
     ensures others { (i : ℕ) → i < j → six result i ≡ 0 }
@@ -134,7 +136,7 @@ fn mask_from(j: u32) -> u64
 }
 
 // A mask of all bits of a word's cells below number `j`.
-fn mask_below(j: u32) -> u64
+pub(crate) fn mask_below(j: u32) -> u64
     requires { j ≤ 10 }
     ensures named { (i : ℕ) → i < j → six result i ≡ 63 }
     ensures others { (i : ℕ) → j ≤ i → i < 10 → six result i ≡ 0 }
@@ -143,23 +145,24 @@ fn mask_below(j: u32) -> u64
 }
 
 // What instructions came to before, by their addresses. An entry says nothing of core but by the twelve cells themselves, so it never
-// has to be told of a store.
+// has to be told of a store. The entries stand on the heap: within a machine they would be copied with it wherever it is handed on.
 #[derive(Drop)]
 pub(crate) struct Memo<const M: u32> {
-    entries: [KnownEntry<M>; 256],
+    entries: Vec<KnownEntry<M>>,
+    further: FurtherFields<M>,
+    ghost all: { length entries.items ≡ 256 },
 }
 
 impl<const M: u32> Memo<M> {
     ghost use Rattle.cpu_step.specs.Known.{Comes};
 
-    // A memo that knows nothing.
-    #[inline(always)]
-    pub(crate) fn new() -> Self
+    // A memo that knows nothing. The error is want of memory.
+    pub(crate) fn new(alloc: Global) -> Result<Self, AllocError>
         requires { IsSize M }
     {
-        Memo {
-            entries: [KnownEntry::none(); 256],
-        }
+        let entries = vec![in alloc; KnownEntry::none(); 256]?;
+        let further = FurtherFields::new(alloc)?;
+        Ok(Memo { entries, further })
     }
 
     // What the instruction at `ir` comes to: as its entry says where its cells are the same, and else it's decoded and kept. Either way
@@ -173,6 +176,22 @@ impl<const M: u32> Memo<M> {
             e.learn(core, ir);
         }
         e.known
+    }
+
+    // The operands of the instruction at `ir` that these fields hold, by what is known of their chains.
+    #[inline(always)]
+    pub(crate) fn operands(
+        &mut self,
+        fields: Fields,
+        core: &Core<M>,
+        ir: u32,
+    ) -> Result<Operands, Stop>
+        requires { ir + 12 ≤ size M }
+        ensures from { result ≡ operands_from fields core.now ir }
+        ensures p { IfOk result (λ o. o.p < size M) }
+        ensures q { IfOk result (λ o. o.q < size M) }
+    {
+        fields.operands_by(&mut self.further, core, ir)
     }
 }
 
@@ -240,7 +259,6 @@ fn known_branch<const M: u32>(op: BranchOp, i: &Instr, core: &Core<M>, ir: u32) 
     requires inside { ir + 12 ≤ size M }
     ensures { IsKnown i.now (size M) result }
 {
-    // For the check alone, which learns core's length from it: the compiler drops it.
     core.size_law();
     let code = tested_code(i);
     let fields = Fields::of(branch_uses(op), i);
@@ -290,7 +308,6 @@ fn known_row<const M: u32>(i: &Instr, core: &Core<M>, ir: u32) -> Known
     requires inside { ir + 12 ≤ size M }
     ensures { IsKnown i.now (size M) result }
 {
-    // For the check alone, which learns core's length from it: the compiler drops it.
     core.size_law();
     match row_of(i) {
         Ok(row) => {

@@ -32,7 +32,6 @@ impl<const M: u32> Machine<M> {
         requires { self.old.mode ≡ Mode.Running }
         ensures { Steps M self.old self.new (H.seen host.old) (H.seen host.new) result }
     {
-        // For the check alone, which learns core's length from it: the compiler drops it.
         self.core.size_law();
         let ir = self.regs.ir;
         match self.memo.look(&self.core, ir) {
@@ -176,7 +175,6 @@ impl<const M: u32> Machine<M> {
     fn through_chains<H: Host>(&mut self, host: &mut H) -> Outcome
         ensures { Acts M instruction self.old self.new (H.seen host.old) (H.seen host.new) result }
     {
-        // For the check alone, which learns core's length from it: the compiler drops it.
         self.core.size_law();
         let ir = self.regs.ir;
         match self.memo.look(&self.core, ir) {
@@ -211,7 +209,7 @@ impl<const M: u32> Machine<M> {
         requires operands { HoldOperands (branch_uses op) self.old.core self.old.regs.ir fields }
         ensures { BranchActs M op code self.old self.new result }
     {
-        match fields.operands(&self.core, self.regs.ir) {
+        match self.memo.operands(fields, &self.core, self.regs.ir) {
             Ok(o) => self.known_branch(op, o.tested(code)),
             Err(stop) => Outcome::Stops(stop),
         }

@@ -48,7 +48,6 @@ impl<const M: u32> Machine<M> {
         ensures below { IsBelow result (size M) }
         ensures within { StepStores self.old.core self.old.regs.ir result }
     {
-        // For the check alone, which learns core's length from it: the compiler drops it.
         self.core.size_law();
         let ir = self.regs.ir;
         match self.memo.look(&self.core, ir) {
@@ -88,7 +87,6 @@ fn fetched_branch_stores<const M: u32>(core: &Core<M>, ir: u32, i: &Instr, op: B
     ensures below { IsBelow result (size M) }
     ensures within { StepStores core.now ir result }
 {
-    // For the check alone, which learns core's length from it: the compiler drops it.
     core.size_law();
     match p_operand(core, ir) {
         Ok(p) => branch_stores(op, p),
@@ -106,7 +104,6 @@ fn fetched_row_stores<const M: u32>(core: &Core<M>, ir: u32, i: &Instr) -> Store
     ensures below { IsBelow result (size M) }
     ensures within { StepStores core.now ir result }
 {
-    // For the check alone, which learns core's length from it: the compiler drops it.
     core.size_law();
     match row_of(i) {
         Ok(row) => match Fields::of(row.uses(), i).operands(core, ir) {

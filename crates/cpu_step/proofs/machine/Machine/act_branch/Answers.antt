@@ -6,7 +6,7 @@ use Rattle.traces.specs.Break.{Stops}
 use Rattle.cpu_step.specs.declared.machine.Outcome.TheVariants as outcome
 use Rattle.cpu_step.specs.Step.{instruction_trace}
 use Rattle.cpu_step.proofs.Shown.{acts_as, did_nothing}
-use Rattle.cpu_step.proofs.Quick.{branch_stops}
+use Rattle.cpu_step.proofs.Quick.{branch_stops, memo_apart}
 use Rattle.cpu_step.proofs.Knowing.{branch_known}
 use Rattle.cpu_step.proofs.Knowing as knowing
 use Rattle.cpu_step.proofs.machine.Machine.act_branch.Goals as goal
@@ -21,14 +21,16 @@ pub returns-in-Ok : goal.returns-in-Ok
 returns-in-Ok g c =
     λ i now tests.
     let known = branch_known c.args.self.now.core c.args.self.now.regs.ir c.in-Ok.o c.args.op i c.args.code (sym (c.in-Ok.ensures.from ∙ c.requires.operands)) tests in
-    (rw c.tested.ensures at c.known_branch.ensures) i now known
+    memo_apart g.row.M (instruction_trace (Some c.args.op) i) c.args.self.now c.known_branch.new.self c.operands.new.self now now c.known_branch.result
+    ((rw c.tested.ensures at c.known_branch.ensures) i now known)
 
 pub returns-in-Err : goal.returns-in-Err
 returns-in-Err g c =
     λ i now tests.
     let why = c.in-Err.stop in
-    let self = c.args.self.now in
-    acts_as g.row.M (λ s. ends (Err (Stops why))) (instruction_trace (Some c.args.op) i) self self now now
+    let self = record c.args.self.now { memo = c.operands.new.self } in
+    memo_apart g.row.M (instruction_trace (Some c.args.op) i) c.args.self.now self c.operands.new.self now now (outcome.Stops why)
+    (acts_as g.row.M (λ s. ends (Err (Stops why))) (instruction_trace (Some c.args.op) i) self self now now
     (λ s shown. branch_stops g.row.M self _ s shown i c.args.op why
     (λ r panel same. knowing.branch_stops self.core self.regs.ir c.args.op i why r panel same (sym (c.in-Err.ensures.from ∙ c.requires.operands))))
-    (outcome.Stops why) (did_nothing g.row.M self now (Err (Stops why)))
+    (outcome.Stops why) (did_nothing g.row.M self now (Err (Stops why))))

@@ -1,0 +1,225 @@
+// Further fields that were read before.
+ghost use Rattle.std.specs.Prelude.{◌≡◌, ◌+◌, ◌*◌, ◌<◌, ◌≤◌, length, IfOk, IfSome, Ok, true};
+ghost use Rattle.digit_core.specs.Size.{IsSize, size};
+ghost use Rattle.addr_indirect.specs.Operand.{further};
+ghost use Rattle.cpu_step.specs.Further.{FieldIsKnown, LeadsTo};
+
+use crate::checks::five_digits;
+use crate::memo::{mask_below, mask_from};
+use addr_indirect::{LOWEST_UNITS, Stop, decimal_at, further};
+use digit_core::Core;
+use std::alloc::{AllocError, Global};
+
+// A further field, and what it comes to. Its five cells are kept as the two words of core that hold them, as those of an instruction are.
+#[derive(Clone, Copy)]
+struct FurtherField<const M: u32> {
+    // The position of its units, 0 where nothing is known: no field has its units there.
+    units: u32,
+    // The number of the lower word.
+    word: u32,
+    low_mask: u64,
+    low: u64,
+    high_mask: u64,
+    high: u64,
+    // Its number, which is an address in core.
+    number: u32,
+    // Whether its units digit has a flag: then the chain goes on at its number.
+    flagged: bool,
+    ghost word_is: { word + 1 < M * 2000 },
+    ghost field_is: { FieldIsKnown M units word low_mask low high_mask high number flagged },
+}
+
+impl<const M: u32> FurtherField<M> {
+    // An entry that knows nothing.
+    fn none() -> Self
+        requires { IsSize M }
+    {
+        FurtherField {
+            units: 0,
+            word: 0,
+            low_mask: 0,
+            low: 0,
+            high_mask: 0,
+            high: 0,
+            number: 0,
+            flagged: false,
+        }
+    }
+
+    // Whether the field whose units are at `u` is the one that the entry knows: where the answer is yes, it comes to what the entry says.
+    #[inline(always)]
+    fn is_at(&self, core: &Core<M>, u: u32) -> bool
+        requires { 4 ≤ u }
+        ensures { result ≡ true → LeadsTo core.now u self.now.number self.now.flagged }
+    {
+        core.size_law();
+        self.units == u
+            && core.word(self.word) & self.low_mask == self.low
+            && core.word(self.word + 1) & self.high_mask == self.high
+    }
+
+    // Reads the field whose units are at `u`, to be kept. A field that stops a chain isn't kept, nor one that ends with core.
+    #[cold]
+    #[inline(never)]
+    fn read(core: &Core<M>, u: u32) -> Option<Self>
+        requires field { 4 ≤ u }
+        requires in_core { u < size M }
+        ensures { IfSome result (λ e. LeadsTo core.now u e.number e.flagged) }
+    {
+        let size = core.size();
+        if u + 6 >= size {
+            return None;
+        }
+        match decimal_at(core, u) {
+            Ok(d) => match five_digits(core, u) {
+                Ok(number) => {
+                    if number >= size {
+                        None
+                    } else if d.flag && number < LOWEST_UNITS {
+                        None
+                    } else {
+                        Some(FurtherField::of(core, u, number, d.flag))
+                    }
+                }
+                Err(_) => None,
+            },
+            Err(_) => None,
+        }
+    }
+
+    // The field whose units are at `u`, and which comes to this, with its words.
+    fn of(core: &Core<M>, u: u32, number: u32, flagged: bool) -> Self
+        requires field { 4 ≤ u }
+        requires in_core { u + 6 < size M }
+        requires leads { LeadsTo core.now u number flagged }
+        ensures number { result.number ≡ number }
+        ensures flagged { result.flagged ≡ flagged }
+    {
+        core.size_law();
+        let word = (u - 4) / 10;
+        let j = (u - 4) % 10;
+        let high_end = (j + 5).saturating_sub(10);
+        let low_mask = mask_from(j) & mask_below(j + 5 - high_end);
+        let high_mask = mask_below(high_end);
+        FurtherField {
+            units: u,
+            word,
+            low_mask,
+            low: core.word(word) & low_mask,
+            high_mask,
+            high: core.word(word + 1) & high_mask,
+            number,
+            flagged,
+        }
+    }
+}
+
+// A chain that was followed from this position, and what it came to.
+#[derive(Clone, Copy)]
+struct Followed {
+    at: u32,
+    to: u32,
+}
+
+// How many further fields of a chain are kept; a longer one is followed each time.
+const MOST_FIELDS: u32 = 8;
+
+// Further fields that were read before, by the positions of their units. An entry says nothing of core but by the five cells themselves,
+// so it never has to be told of a store. They stand on the heap, as what instructions came to. A chain's fields are kept once it came to the same twice, so one that is changed each time costs
+// little more than to follow it.
+#[derive(Drop)]
+pub(crate) struct FurtherFields<const M: u32> {
+    entries: Vec<FurtherField<M>>,
+    followed: Vec<Followed>,
+    ghost all: { length entries.items ≡ 64 },
+    ghost all_followed: { length followed.items ≡ 64 },
+}
+
+impl<const M: u32> FurtherFields<M> {
+    // Fields of which nothing is known. The error is want of memory.
+    pub(crate) fn new(alloc: Global) -> Result<Self, AllocError>
+        requires { IsSize M }
+    {
+        let entries = vec![in alloc; FurtherField::none(); 64]?;
+        let followed = vec![in alloc; Followed { at: 0, to: 0 }; 64]?;
+        Ok(FurtherFields { entries, followed })
+    }
+
+    // The address that an operand comes to whose first field leads to a further one, whose units are at `at`.
+    #[inline(never)]
+    pub(crate) fn further(&mut self, core: &Core<M>, at: u32) -> Result<u32, Stop>
+        requires field { 4 ≤ at }
+        requires in_core { at < size M }
+        ensures is { result ≡ further core.now at }
+        ensures in_core { IfOk result (λ a. a < size M) }
+    {
+        match self.known(core, at) {
+            Some(a) => Ok(a),
+            None => self.follow(core, at),
+        }
+    }
+
+    // The same where each of the chain's fields is known.
+    #[inline(always)]
+    fn known(&self, core: &Core<M>, at: u32) -> Option<u32>
+        requires field { 4 ≤ at }
+        requires in_core { at < size M }
+        ensures { IfSome result (λ a. (further core.now at ≡ Ok a) × (a < size M)) }
+    {
+        core.size_law();
+        let mut u = at;
+        for _field in 0..MOST_FIELDS {
+            let e = &self.entries[(u % 64) as usize];
+            if !e.is_at(core, u) {
+                return None;
+            }
+            if !e.flagged {
+                return Some(e.number);
+            }
+            u = e.number;
+        }
+        None
+    }
+
+    // The same by all of the chain's fields, as they stand in core.
+    #[inline(never)]
+    fn follow(&mut self, core: &Core<M>, at: u32) -> Result<u32, Stop>
+        requires field { 4 ≤ at }
+        requires in_core { at < size M }
+        ensures is { result ≡ further core.now at }
+        ensures in_core { IfOk result (λ a. a < size M) }
+    {
+        let to = further(core, at)?;
+        let last = self.followed[(at % 64) as usize];
+        if last.at == at && last.to == to {
+            self.learn(core, at);
+        } else {
+            self.followed[(at % 64) as usize] = Followed { at, to };
+        }
+        Ok(to)
+    }
+
+    // Keeps the chain's fields, up to the first that can't be kept. The chain has to come to the same twice before they are kept again.
+    #[cold]
+    #[inline(never)]
+    fn learn(&mut self, core: &Core<M>, at: u32)
+        requires field { 4 ≤ at }
+        requires in_core { at < size M }
+    {
+        core.size_law();
+        self.followed[(at % 64) as usize] = Followed { at: 0, to: 0 };
+        let mut u = at;
+        for _field in 0..MOST_FIELDS {
+            match FurtherField::read(core, u) {
+                Some(e) => {
+                    self.entries[(u % 64) as usize] = e;
+                    if !e.flagged {
+                        return;
+                    }
+                    u = e.number;
+                }
+                None => return,
+            }
+        }
+    }
+}
