@@ -3,8 +3,12 @@
 //! A line's words are parted by single blanks. A number is a word of 1 to 15 decimal digits. A blank is byte 32 and nothing else.
 #![tactic(auto)]
 
+mod arguments;
 mod blanks;
+mod lines;
 mod words;
 
+pub use arguments::{Span, alone, number_below, one_of, one_word, span_below, two_words};
 pub use blanks::trimmed;
+pub use lines::{LineFault, LineGrammar, read_lines};
 pub use words::{LARGEST_NUMBER, cut_word, number, number_in};

@@ -1,11 +1,10 @@
 // Words and numbers of a line.
+// Source: this project's own.
 ghost use Rattle.std.specs.Prelude.{◌≡◌, ◌==◌, ◌≤◌, ◌∷◌, position, IfSome};
 ghost use Rattle.std.specs.Option.{option_copied};
-ghost use Rattle.line_words.specs.Words.{number, number_in, words_behind, words_of};
+ghost use Rattle.line_words.specs.Words.{largest_number, number, number_in, words_behind, words_of};
 
 /// The greatest number that a word of a line can be: 15 digits.
-///
-/// Source: this project's own.
 pub const LARGEST_NUMBER: u64 = 999_999_999_999_999;
 
 // The place of the first blank.
@@ -18,7 +17,6 @@ fn first_blank(text: &[u8]) -> Option<usize>
 /// The first word of a text, and what stands behind the blank that ends it; `None` where no blank does.
 ///
 /// Each blank ends a word, which may be empty: a text begins with an empty word where its first byte is a blank.
-/// Source: this project's own.
 pub fn cut_word(text: &[u8]) -> (&[u8], Option<&[u8]>)
     ensures { words_of text.now ≡ result.0.now ∷ words_behind (option_copied result.1) }
 {
@@ -29,10 +27,9 @@ pub fn cut_word(text: &[u8]) -> (&[u8], Option<&[u8]>)
 }
 
 /// The number that a word of 1 to 15 decimal digits is, with any leading zeros; `None` for any other word.
-///
-/// Source: this project's own.
 pub fn number(word: &[u8]) -> Option<u64>
-    ensures { result ≡ number word.now }
+    ensures value { result ≡ number word.now }
+    ensures most { IfSome result (λ n. n ≤ largest_number) }
 {
     if word.is_empty() || word.len() > 15 {
         return None;
@@ -48,10 +45,9 @@ pub fn number(word: &[u8]) -> Option<u64>
 }
 
 /// The number that a word of 1 to 15 decimal digits is, where it is one from `least` to `most`; `None` for any other word.
-///
-/// Source: this project's own.
 pub fn number_in(least: u64, most: u64, word: &[u8]) -> Option<u64>
     ensures value { result ≡ number_in least most word.now }
+    ensures least { IfSome result (λ n. least ≤ n) }
     ensures most { IfSome result (λ n. n ≤ most) }
 {
     let n = number(word)?;

@@ -1,6 +1,4 @@
-pub mod Cutting
-pub mod LineLimits
-pub mod Reading
+pub mod NoLines
 pub mod Turning
 pub mod Acting
 pub mod Moving

@@ -10,6 +10,8 @@ use Rattle.operator_script.specs.declared.script.ScriptFault.{ScriptFault}
 use Rattle.operator_script.specs.declared.script.ScriptFault.TheVariants as fault
 use Rattle.operator_script.specs.Script.{script_of}
 use Rattle.line_words.specs.Words.{largest_number}
+use Rattle.line_words.specs.declared.lines.LineFault.{LineFault}
+use Rattle.line_words.specs.declared.lines.LineFault.TheVariants as lines
 
 -- the lines that have not acted yet
 abbrev pub lines_left : Script → List ScriptLine
@@ -38,3 +40,8 @@ abbrev pub Reads : ℕ → List ℕ → Result Script ScriptFault → Type 0
 Reads positions bytes (Ok script) = script_of positions bytes ≡ Ok (lines_left script)
 Reads positions bytes (Err (fault.BadLine line)) = script_of positions bytes ≡ Err line
 Reads positions bytes (Err fault.Memory) = ⊤
+
+-- why a script was not read, by why its lines were not
+abbrev pub fault_of : LineFault → ScriptFault
+fault_of (lines.BadLine line) = fault.BadLine line
+fault_of lines.Memory = fault.Memory

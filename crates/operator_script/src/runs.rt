@@ -1,4 +1,5 @@
 // A run as one value.
+// Source: this project's own.
 ghost use Rattle.operator_script.specs.Scripts.{lines_left};
 ghost use Rattle.std.specs.Prelude.{◌≡◌, ◌<◌, ◌≤◌, ◌+◌, true, false, None};
 ghost use Rattle.cpu_step.specs.Machine.{is_running};
@@ -13,8 +14,6 @@ use cpu_step::{Machine, Turned};
 use outside_io::Host;
 
 /// A run under way: a machine that takes its turns under the operator's script, how many steps it has made, and how many it may make.
-///
-/// Source: this project's own.
 #[derive(Drop)]
 pub struct Run<'a, const M: u32> {
     /// The machine.
@@ -39,7 +38,6 @@ impl<const M: u32> Run<'_, M> {
     /// One turn of the run, as [`turn`](crate::turn) says.
     ///
     /// `steps` is no more than the limit, and the mode is not Faulted. Machine, script and limit stay those of the run.
-    /// Source: this project's own.
     #[inline(always)]
     pub fn turn<H: Host>(&mut self, host: &mut H) -> TurnEnd
         requires { IsReady M self.old }
@@ -74,7 +72,6 @@ impl<const M: u32> Run<'_, M> {
     /// Turns until one ends the run, as [`run`](crate::run) says; how it ends.
     ///
     /// `steps` is no more than the limit, and the mode is not Faulted. Machine, script and limit stay those of the run.
-    /// Source: this project's own.
     #[inline(always)]
     pub fn to_end<H: Host>(&mut self, host: &mut H) -> Ending
         requires { IsReady M self.old }
@@ -157,8 +154,6 @@ impl<const M: u32> Run<'_, M> {
     }
 
     /// Whether the next turn is a step: the machine runs, the count is not at the limit, and the front line of the script is not due.
-    ///
-    /// Source: this project's own.
     pub fn is_step_next(&self) -> bool
         ensures { IsStepNext self.now.limit self.now.machine.now.mode self.now.steps (lines_left self.now.script.now) result }
     {

@@ -1,12 +1,14 @@
 // The operator's script.
-ghost use Rattle.std.specs.Prelude.{◌≡◌, All, IfOk};
-ghost use Rattle.operator_script.specs.Scripts.{Reads, IsLine, lines_left};
-ghost use Rattle.operator_script.specs.Script.{action_of, at_line, check_of, key_of, line_of, flip_of, flip_within, one_of, setting_of, switch_of};
+ghost use Rattle.std.specs.Prelude.{◌≡◌, All, IfOk, IfSome};
+ghost use Rattle.operator_script.specs.Scripts.{Reads, IsAction, IsLine, fault_of, lines_left};
+ghost use Rattle.operator_script.specs.Script.{action_of, at_line, line_of};
 ghost use Rattle.line_words.specs.Words.{words_of};
 ghost use Rattle.operator_script.specs.declared.script.ScriptFault.TheVariants.{Memory};
 
-use line_words::{cut_word, number, number_in};
-use outside_io::split_line;
+use line_words::{
+    LineFault, LineGrammar, alone, cut_word, number, number_below, number_in, one_of, one_word,
+    read_lines, two_words,
+};
 use std::alloc::{AllocError, Global};
 use std::vec::Vec;
 use thiserror::Error;
@@ -90,6 +92,35 @@ impl From<AllocError> for ScriptFault {
     }
 }
 
+impl From<LineFault> for ScriptFault {
+    ghost from_gives = { λ fault e. e ≡ fault_of fault };
+
+    fn from(fault: LineFault) -> Self {
+        match fault {
+            LineFault::BadLine(line) => ScriptFault::BadLine(line),
+            LineFault::Memory => ScriptFault::Memory,
+        }
+    }
+}
+
+// How the lines of a script are read, for a core of so many positions.
+#[derive(Drop)]
+struct ScriptGrammar {
+    positions: u32,
+}
+
+impl LineGrammar for ScriptGrammar {
+    type Item = ScriptLine;
+
+    ghost item_of = { λ grammar. line_of grammar.positions };
+
+    ghost IsItem = { λ grammar. IsLine grammar.positions };
+
+    fn read_line(&self, text: &[u8]) -> Option<ScriptLine> {
+        line_of(text, self.positions)
+    }
+}
+
 /// The operator's script: its lines, of which some have acted.
 ///
 /// Source: this project's own.
@@ -117,20 +148,7 @@ impl Script {
         ensures lines { Reads positions bytes.now result }
         ensures fits { IfOk result (λ script. All (IsLine positions) (lines_left script)) }
     {
-        let mut lines = Vec::new(alloc);
-        let mut number = 0;
-        let mut rest = bytes;
-        while let Some((text, behind)) = split_line(rest) {
-            number += 1;
-            rest = behind;
-            if text.is_empty() {
-                continue;
-            }
-            let Some(line) = line_of(text, positions) else {
-                return Err(ScriptFault::BadLine(number));
-            };
-            lines.push(line).map_err(AllocError::from)?;
-        }
+        let lines = read_lines(alloc, &ScriptGrammar { positions }, bytes)?;
         Ok(Script { lines, front: 0 })
     }
 
@@ -146,7 +164,8 @@ impl Script {
 
 // The line of a text: `AT n action` or `HALT action`.
 fn line_of(text: &[u8], positions: u32) -> Option<ScriptLine>
-    ensures { result ≡ line_of positions text.now }
+    ensures value { result ≡ line_of positions text.now }
+    ensures fits { IfSome result (IsLine positions) }
 {
     let (word, behind) = cut_word(text);
     if word == b"AT".as_slice() {
@@ -164,7 +183,8 @@ fn line_of(text: &[u8], positions: u32) -> Option<ScriptLine>
 
 // What stands behind `AT`: `n action`.
 fn at_line(text: &[u8], positions: u32) -> Option<ScriptLine>
-    ensures { result ≡ at_line positions (words_of text.now) }
+    ensures value { result ≡ at_line positions (words_of text.now) }
+    ensures fits { IfSome result (IsLine positions) }
 {
     let (word, behind) = cut_word(text);
     let count = number(word)?;
@@ -175,104 +195,32 @@ fn at_line(text: &[u8], positions: u32) -> Option<ScriptLine>
     })
 }
 
-// The action of a text of one to three words.
+// The action of a text: its word, and the arguments that stand behind it.
 fn action_of(text: &[u8], positions: u32) -> Option<Action>
-    ensures { result ≡ action_of positions (words_of text.now) }
+    ensures value { result ≡ action_of positions (words_of text.now) }
+    ensures fits { IfSome result (IsAction positions) }
 {
     let (word, behind) = cut_word(text);
-    let Some(behind) = behind else {
-        return key_of(word);
-    };
-    let (first, behind) = cut_word(behind);
-    let Some(behind) = behind else {
-        return check_of(word, first);
-    };
-    match cut_word(behind) {
-        (second, None) => setting_of(positions, word, first, second),
-        (_, Some(_)) => None,
-    }
-}
-
-// `START`, `LOAD`.
-fn key_of(word: &[u8]) -> Option<Action>
-    ensures { result ≡ key_of word.now }
-{
     if word == b"START".as_slice() {
-        Some(Action::Start)
+        alone(Action::Start, behind)
     } else if word == b"LOAD".as_slice() {
-        Some(Action::Load)
-    } else {
-        None
-    }
-}
-
-// `OVERFLOW STOP`, `OVERFLOW PROGRAM`, `IO STOP`, `IO PROGRAM`.
-fn check_of(word: &[u8], place: &[u8]) -> Option<Action>
-    ensures { result ≡ check_of word.now place.now }
-{
-    if word == b"OVERFLOW".as_slice() {
-        let stops = one_of(b"STOP", b"PROGRAM", place)?;
+        alone(Action::Load, behind)
+    } else if word == b"SWITCH".as_slice() {
+        let (number, place) = two_words(behind)?;
+        let number = number_in(1, 4, number)? as u8;
+        let on = one_of(b"ON", b"OFF", place)?;
+        Some(Action::Switch { number, on })
+    } else if word == b"OVERFLOW".as_slice() {
+        let stops = one_of(b"STOP", b"PROGRAM", one_word(behind)?)?;
         Some(Action::Overflow { stops })
     } else if word == b"IO".as_slice() {
-        let stops = one_of(b"STOP", b"PROGRAM", place)?;
+        let stops = one_of(b"STOP", b"PROGRAM", one_word(behind)?)?;
         Some(Action::InOut { stops })
-    } else {
-        None
-    }
-}
-
-// `SWITCH k ON`, `SWITCH k OFF`, `FLIP a b`.
-fn setting_of(positions: u32, word: &[u8], first: &[u8], second: &[u8]) -> Option<Action>
-    ensures { result ≡ setting_of positions word.now first.now second.now }
-{
-    if word == b"SWITCH".as_slice() {
-        switch_of(first, second)
     } else if word == b"FLIP".as_slice() {
-        flip_of(positions, first, second)
-    } else {
-        None
-    }
-}
-
-// `k ON`, `k OFF`.
-fn switch_of(which: &[u8], place: &[u8]) -> Option<Action>
-    ensures { result ≡ switch_of which.now place.now }
-{
-    let number = number_in(1, 4, which)?;
-    let on = one_of(b"ON", b"OFF", place)?;
-    Some(Action::Switch {
-        number: number as u8,
-        on,
-    })
-}
-
-// `a b`: a bit of the cell at an address.
-fn flip_of(positions: u32, at: &[u8], bit: &[u8]) -> Option<Action>
-    ensures { result ≡ flip_of positions at.now bit.now }
-{
-    let at = number(at)?;
-    let bit = number_in(0, 5, bit)?;
-    flip_within(positions, at, bit as u8)
-}
-
-// A bit of a cell, where the cell is in core.
-fn flip_within(positions: u32, at: u64, bit: u8) -> Option<Action>
-    ensures { result ≡ flip_within positions at bit }
-{
-    if at >= u64::from(positions) {
-        return None;
-    }
-    Some(Action::Flip { at: at as u32, bit })
-}
-
-// Which of two words it is: true for the first.
-fn one_of(yes_word: &[u8], no_word: &[u8], word: &[u8]) -> Option<bool>
-    ensures { result ≡ one_of yes_word.now no_word.now word.now }
-{
-    if word == yes_word {
-        Some(true)
-    } else if word == no_word {
-        Some(false)
+        let (at, bit) = two_words(behind)?;
+        let at = number_below(positions, at)?;
+        let bit = number_in(0, 5, bit)? as u8;
+        Some(Action::Flip { at, bit })
     } else {
         None
     }

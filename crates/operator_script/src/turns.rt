@@ -1,4 +1,5 @@
 // The turns of a run.
+// Source: this project's own.
 ghost use Rattle.std.specs.Prelude.{◌≡◌, ◌≤◌, ℕ, true, false, All, Some, is_some};
 ghost use Rattle.digit_core.specs.Size.{size};
 ghost use Rattle.cpu_step.specs.Machine.{is_faulted};
@@ -13,8 +14,6 @@ use cpu_step::{Machine, Mode, Turned};
 use outside_io::{Host, Unit};
 
 /// How a run ends.
-///
-/// Source: this project's own.
 #[derive(Clone, Copy, Debug, PartialEq, Eq)]
 pub enum Ending {
     /// The machine is halted, and no line of the script is due.
@@ -53,8 +52,6 @@ pub enum Ending {
 }
 
 /// What a turn was.
-///
-/// Source: this project's own.
 #[derive(Clone, Copy, Debug, PartialEq, Eq)]
 pub enum TurnEnd {
     /// The operator acted by the front line of the script.
@@ -66,8 +63,6 @@ pub enum TurnEnd {
 }
 
 /// How a run ended, and after how many steps.
-///
-/// Source: this project's own.
 #[derive(Clone, Copy, Debug, PartialEq, Eq)]
 pub struct Ended {
     /// How it ended.
@@ -87,7 +82,6 @@ pub struct Ended {
 /// and the mode is Faulted. A turn that ends the run otherwise changes nothing: `Ended(Limit)` comes only with `steps` at the
 /// limit, and no turn ends the run of a running or halted machine while the front line is due. Whatever the host tells of its
 /// units, `Stepped` says that the machine made a step.
-/// Source: this project's own.
 #[inline(always)]
 pub fn turn<const M: u32, H: Host>(
     machine: &mut Machine<M>,
@@ -122,7 +116,6 @@ pub fn turn<const M: u32, H: Host>(
 /// comes only with the count at the limit and a machine that would run on, and no run ends in a running or halted machine while
 /// the front line is due. `Failed` only where the host's count of faults rose: the mode is Faulted then, the count is no more
 /// than the limit, and machine, script and count stand within a turn of this run.
-/// Source: this project's own.
 pub fn run<const M: u32, H: Host>(
     machine: &mut Machine<M>,
     script: &mut Script,

@@ -1,11 +1,11 @@
 -- One digit after another.
 use Rattle.std.proofs.Common.{◌≡◌, ◌-◌, ◌∙◌, true, get_or, sym, ap, ℕ, ◌+◌, ◌*◌, drop, arith}
-use Rattle.line_words.proofs.Numbers.{digits_from, digit_small, one_digit_more, fits_more, digit_more, digit_bad, digits_all, number_by_digits}
+use Rattle.line_words.proofs.Numbers.{digits_from, digit_small, within_15, one_digit_more, fits_more, digit_more, digit_bad, digits_all, number_by_digits}
 use Rattle.line_words.proofs.words.number.Goals as goal
 use Rattle.std.specs.Char.{is_ascii_digit}
 
-pub returns-then-not-is_ascii_digit : goal.returns-then-not-is_ascii_digit
-returns-then-not-is_ascii_digit c =
+pub returns-then-not-is_ascii_digit-clause-value : goal.returns-then-not-is_ascii_digit-clause-value
+returns-then-not-is_ascii_digit-clause-value c =
     sym (number_by_digits c.args.word.now (omega arith) (omega arith) ∙ sym c.loop-c.invariant.number
     ∙ digit_bad c.args.word.now c.loop-c.c-index c.loop-c.n c.loop-c-test.true (sym c.is_ascii_digit.ensures.value ∙ c.if-not-is_ascii_digit.true))
 
@@ -27,8 +27,11 @@ loop-c-preserved c =
           ∙ digit_more c.args.word.now c.loop-c.c-index c.loop-c.n c.loop-c-test.true digit ∙ c.loop-c.invariant.number;
     }
 
-pub returns : goal.returns
-returns c =
+pub returns-clause-value : goal.returns-clause-value
+returns-clause-value c =
     let some = c.if-is_empty.ensures in
     sym (number_by_digits c.args.word.now (grind arith) (omega arith) ∙ sym c.loop-c.invariant.number
     ∙ digits_all c.args.word.now c.loop-c.c-index c.loop-c.n c.loop-c-test.false)
+
+pub returns-clause-most : goal.returns-clause-most
+returns-clause-most c = omega (arith, c.loop-c.invariant.small, within_15 c.loop-c.c-index (omega arith))
