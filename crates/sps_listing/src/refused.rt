@@ -1,4 +1,5 @@
 // The line of a refusal.
+// Source: this project's own.
 ghost use Rattle.std.specs.Prelude.{◌≡◌, ◌≤◌, ◌++◌};
 ghost use Rattle.arrayvec.specs.ArrayString.{array_string_len};
 ghost use Rattle.sps_listing.specs.Texts.{refusal_head, behind_blank, short_refusal_line};
@@ -31,7 +32,6 @@ fn refusal_head(statement: u32, rule: Rule) -> ArrayString<LONGEST_LINE>
 /// at least five digits, and the rule's number in two digits and its name.
 ///
 /// `statement` is the number of the refused statement, the first being 1.
-/// Source: this project's own.
 #[tactic(auto, unfolding(crate::specs::Texts::short_refusal_line))]
 pub fn short_refusal_line(statement: u32, rule: Rule) -> ArrayString<LONGEST_LINE>
     ensures { result.bytes ≡ short_refusal_line statement rule }
@@ -62,7 +62,6 @@ fn refusal_front(statement: u32, rule: Rule, shown: &[u8]) -> ArrayString<LONGES
 ///
 /// The statement is scanned once more, and no memory is taken.
 /// `Failed` only where the host's count of faults rose: Report has been given a first part of the line, which may be empty or all.
-/// Source: this project's own.
 pub fn refusal<H: Host>(
     source: &[u8],
     statement: u32,

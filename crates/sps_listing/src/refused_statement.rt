@@ -1,4 +1,5 @@
 // The statement that a source is refused for, as a value.
+// Source: this project's own.
 ghost use Rattle.std.specs.Prelude.{◌≡◌, take, IfOk};
 ghost use Rattle.sps_listing.specs.Others.{other_text, other_statement};
 ghost use Rattle.sps_listing.specs.Refused.{refused_text, ShowsOtherText, ShowsOther, ShowsRefused};
@@ -10,8 +11,6 @@ use sps_ops::Rule;
 use std::alloc::{AllocError, Global};
 
 /// The statement that a source is refused for, as it stands there.
-///
-/// Source: this project's own.
 #[derive(Clone, Drop)]
 pub struct RefusedLine {
     /// Its number, counted from 1.
@@ -30,8 +29,6 @@ pub struct RefusedLine {
 
 /// Another statement that a refusal is about: the one that has the label first, or one whose label a part lacks since that statement breaks
 /// a rule itself.
-///
-/// Source: this project's own.
 #[derive(Clone, Drop)]
 pub struct OtherStatement {
     /// Its number, counted from 1.
@@ -96,7 +93,6 @@ fn other_statement(
 /// no name of the part lacks its symbol. There is none for any other rule.
 ///
 /// It takes memory; the error is want of it.
-/// Source: this project's own.
 pub fn refused_line(
     alloc: Global,
     source: &[u8],

@@ -1,4 +1,5 @@
 // A statement of a source, as a value.
+// Source: this project's own.
 ghost use Rattle.sps_listing.specs.Standing.{standing_text, ShowsStanding};
 
 use crate::refused_statement::first_bytes;
@@ -6,8 +7,6 @@ use crate::shown::line_at;
 use arrayvec::ArrayVec;
 
 /// A statement of a source, as it stands there.
-///
-/// Source: this project's own.
 #[derive(Clone, Drop)]
 pub struct StandingLine {
     /// Its number, counted from 1.
@@ -22,7 +21,6 @@ pub struct StandingLine {
 ///
 /// `source` is the source deck of the statement, and `statement` its number, the first being 1. The line is without its LF, and without
 /// one CR before that. It is empty for a statement that the source does not have. No memory is taken.
-/// Source: this project's own.
 pub fn standing_line(source: &[u8], statement: u32) -> StandingLine
     ensures { ShowsStanding (standing_text source.now statement) result }
 {

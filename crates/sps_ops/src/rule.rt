@@ -1,9 +1,8 @@
 // The rules that a statement can break.
+// Source: this project's own.
 ghost use Rattle.std.specs.Prelude.{◌≡◌, ◌≤◌, length};
 
 /// A rule that a statement breaks. Where it breaks several, the one that comes first here is told.
-///
-/// Source: this project's own.
 #[derive(Clone, Copy, Debug, PartialEq, Eq)]
 pub enum Rule {
     /// 1: a byte of the label, the operation or an operand part is no character of the assembler.
@@ -49,8 +48,6 @@ pub enum Rule {
 }
 
 /// What the program says is wrong with a statement that breaks a rule.
-///
-/// Source: this project's own.
 #[derive(Clone, Copy, Debug)]
 pub enum Sentence {
     /// These words, in a core of any size.
@@ -61,8 +58,6 @@ pub enum Sentence {
 }
 
 /// A row of the table of rules.
-///
-/// Source: this project's own.
 #[derive(Clone, Copy, Debug)]
 pub struct RuleRow {
     /// The number of the rule, 1 to 20.
@@ -74,8 +69,6 @@ pub struct RuleRow {
 }
 
 /// The table of rules, a row for each variant of [`Rule`], in the order of the variants.
-///
-/// Source: this project's own.
 pub static RULES: [RuleRow; 20] = [
     RuleRow {
         number: 1,
@@ -189,8 +182,6 @@ impl Rule {
     ghost use Rattle.sps_ops.specs.Rules.{rule_number, rule_name, rule_sentence, words_of_sentence};
 
     /// The rule's row in the table.
-    ///
-    /// Source: this project's own.
     pub fn row(self) -> &'static RuleRow
         ensures number { result.now.number ≡ rule_number self }
         ensures name { result.now.name.now ≡ rule_name self }
@@ -201,8 +192,6 @@ impl Rule {
     }
 
     /// The number of the rule, 1 to 20.
-    ///
-    /// Source: this project's own.
     pub fn number(self) -> u8
         ensures is { result ≡ rule_number self }
         ensures some { 1 ≤ result }
@@ -212,8 +201,6 @@ impl Rule {
     }
 
     /// The name of the rule, as it is printed: at most 17 letters.
-    ///
-    /// Source: this project's own.
     pub fn name(self) -> &'static str
         ensures is { result.now ≡ rule_name self }
         ensures short { length result.now ≤ 17 }
@@ -222,8 +209,6 @@ impl Rule {
     }
 
     /// What is wrong with a statement that breaks the rule.
-    ///
-    /// Source: this project's own.
     pub fn sentence(self) -> Sentence
         ensures { words_of_sentence result ≡ rule_sentence self }
     {

@@ -174,8 +174,8 @@ fn quick_operation(name: &[u8]) -> Option<Operation>
     None
 }
 
-// A number below 256 that a name's characters make. The factor is one by which no two names of the tables make the same number; it was
-// found by trying odd numbers. A name that is added to a table needs another factor and other places, or it's found by the search alone.
+// A number below 256 that a name's characters make. The factor is one by which no two names of the tables make the same number. The script
+// operation-places of `bin` finds it, and writes it and the places; a name for which that was not done is found by the search alone.
 fn number_of(name: &[u8]) -> usize
     ensures { result < 256 }
 {

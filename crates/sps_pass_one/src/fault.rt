@@ -1,4 +1,5 @@
 // The rules that a statement breaks, and which of them is told.
+// Source: this project's own.
 ghost use Rattle.std.specs.Prelude.{◌≡◌, ◌<◌};
 ghost use Rattle.sps_pass_one.specs.Faults.{part_order, fault_order, lesser, least, broken_if, broken_at_if};
 
@@ -7,7 +8,6 @@ use sps_ops::Rule;
 /// A rule that a statement breaks, and the part that breaks it.
 ///
 /// The lesser of two faults has the lower rule. Of one rule, a fault without a part comes first, and then an earlier part before a later.
-/// Source: this project's own.
 #[derive(Clone, Copy, Debug, PartialEq, Eq)]
 pub struct Fault {
     /// The rule.
@@ -53,7 +53,6 @@ pub(crate) fn lesser(worst: Option<Fault>, fault: Fault) -> Option<Fault>
 /// The least fault of a statement once one more rule is looked at, which is broken where the test holds.
 ///
 /// `worst` is the least fault of those looked at before, and `None` where there was none.
-/// Source: this project's own.
 #[tactic(auto, unfolding(crate::specs::Faults::least))]
 pub fn broken_if(worst: Option<Fault>, test: bool, rule: Rule) -> Option<Fault>
     ensures { result ≡ least worst (broken_if test rule) }
@@ -68,7 +67,6 @@ pub fn broken_if(worst: Option<Fault>, test: bool, rule: Rule) -> Option<Fault>
 /// The least fault of a statement once one more rule is looked at, which the part at a place breaks where the test holds.
 ///
 /// `worst` is the least fault of those looked at before, and `None` where there was none. `place` counts the parts from 0.
-/// Source: this project's own.
 #[tactic(auto, unfolding(crate::specs::Faults::least))]
 pub fn broken_at_if(worst: Option<Fault>, test: bool, rule: Rule, place: u8) -> Option<Fault>
     ensures { result ≡ least worst (broken_at_if test rule place) }

@@ -1,10 +1,10 @@
 // Laws about faults and layouts.
+// Source: this project's own.
 ghost use Rattle.sps_pass_one.specs.Laws.{LeastLaw, NoFaultLaw, KnownLaw, MeasureLaw};
 
 /// The least of some faults is one of them, and none of them comes before it. There is none only where there are no faults.
 ///
 /// It does nothing; its clauses are the law.
-/// Source: this project's own.
 pub fn least_law()
     ensures least { LeastLaw }
     ensures none { NoFaultLaw }
@@ -13,7 +13,6 @@ pub fn least_law()
 /// The symbols that are known before a statement are those of earlier statements among all symbols of the source.
 ///
 /// It does nothing; its clause is the law.
-/// Source: this project's own.
 pub fn known_law()
     ensures { KnownLaw }
 {}
@@ -22,7 +21,6 @@ pub fn known_law()
 /// broken or none is, and length, count and address are the same.
 ///
 /// It does nothing; its clause is the law.
-/// Source: this project's own.
 pub fn measure_law()
     ensures { MeasureLaw }
 {}

@@ -1,4 +1,5 @@
 // What operands come to, and the rules that they break.
+// Source: this project's own.
 ghost use Rattle.std.specs.Prelude.{◌≡◌, ◌≤◌};
 ghost use Rattle.sps_scan.specs.Statement.{statement_text};
 ghost use Rattle.sps_scan.specs.Columns.{is_blank};
@@ -14,8 +15,6 @@ use sps_ops::Rule;
 use sps_scan::{Statement, short_number};
 
 /// What an operand comes to, and the least fault of its statement so far.
-///
-/// Source: this project's own.
 #[derive(Clone, Copy)]
 pub struct Answered {
     /// The least fault, `None` where no rule was broken.
@@ -27,7 +26,6 @@ pub struct Answered {
 /// What the length, the count and the explicit address of a declarative come to, and the least fault of its statement so far.
 ///
 /// A length or a count that breaks a rule is 0 too, and an address that does is `None`.
-/// Source: this project's own.
 #[derive(Clone, Copy)]
 pub struct Measured {
     /// The least fault, `None` where no rule was broken.
@@ -43,7 +41,6 @@ pub struct Measured {
 /// The part of a statement at a place.
 ///
 /// Places count from 0; behind the last of the ten parts the text is empty.
-/// Source: this project's own.
 pub fn part_at<'a>(s: &Statement<'a>, place: u8) -> &'a [u8]
     ensures { result.now ≡ part_at (statement_text s.now) place }
 {
@@ -58,7 +55,6 @@ pub fn part_at<'a>(s: &Statement<'a>, place: u8) -> &'a [u8]
 /// Whether the part at a place is empty: it holds nothing but blanks.
 ///
 /// Places count from 0.
-/// Source: this project's own.
 pub fn lacks(s: &Statement<'_>, place: u8) -> bool
     ensures { result ≡ lacks (statement_text s.now) place }
 {
@@ -68,7 +64,6 @@ pub fn lacks(s: &Statement<'_>, place: u8) -> bool
 /// Whether a text holds nothing but blanks.
 ///
 /// A blank is byte 32. A text without a byte is blank.
-/// Source: this project's own.
 pub fn is_blank(text: &[u8]) -> bool
     ensures { result ≡ is_blank text.now }
 {
@@ -106,7 +101,6 @@ fn is_even(v: i64) -> bool
 ///
 /// A value outside its range breaks the rule that is asked for. Whether it is odd is looked at only within the range. `worst` is the least
 /// fault of the statement so far, and comes back as the least with this operand.
-/// Source: this project's own.
 #[tactic(auto, unfolding(crate::specs::Faults::least))]
 pub fn in_bounds(worst: Option<Fault>, q: Ask, found: Result<i64, Rule>) -> Answered
     ensures small { IsSmall q → size_of result.value ≤ 99999 }
@@ -143,7 +137,6 @@ pub fn in_bounds(worst: Option<Fault>, q: Ask, found: Result<i64, Rule>) -> Answ
 ///
 /// `scope` is what its part is worked out in. An empty part has no value, and breaks rule 6 where it is needed. `worst` is the least fault
 /// of the statement so far, and comes back as the least with this operand.
-/// Source: this project's own.
 #[tactic(auto, unfolding(crate::specs::Measure::answer))]
 pub fn answer(worst: Option<Fault>, s: &Statement<'_>, q: Ask, scope: &Scope<'_>) -> Answered
     ensures small { IsSmall q → size_of result.value ≤ 99999 }
@@ -210,7 +203,6 @@ fn lacking_faults(worst: Option<Fault>, s: &Statement<'_>, f: Form) -> Option<Fa
 ///
 /// `scope` is what their parts are worked out in. `worst` is the least fault of the statement so far, and comes back as the least with these
 /// operands.
-/// Source: this project's own.
 #[tactic(auto, unfolding(crate::specs::Measure::measure))]
 pub fn measure(worst: Option<Fault>, s: &Statement<'_>, f: Form, scope: &Scope<'_>) -> Measured
     requires { IsSmallForm f }

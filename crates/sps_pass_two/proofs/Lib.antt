@@ -13,4 +13,5 @@ pub mod Kept
 pub mod Holding
 pub mod Counting
 pub mod Assembling
+pub mod Blanks
 pub mod Program

@@ -1,4 +1,5 @@
 // What a source comes to.
+// Source: this project's own.
 ghost use Rattle.std.specs.Prelude.{◌≡◌, ◌≤◌, length};
 ghost use Rattle.sps_pass_two.specs.Kept.{IsProgram};
 ghost use Rattle.sps_pass_two.specs.declared.assembled.AsmFault.TheVariants.{Memory};
@@ -11,8 +12,6 @@ use std::marker::Model;
 use thiserror::Error;
 
 /// A statement as it is placed.
-///
-/// Source: this project's own.
 #[derive(Drop)]
 pub struct Placed {
     /// The address that the listing shows; the location for a comment or a blank line.
@@ -26,7 +25,6 @@ pub struct Placed {
 /// Placed statements in their order.
 ///
 /// Contracts see the list of the statements.
-/// Source: this project's own.
 #[derive(Drop)]
 pub struct PlacedList(Vec<Placed>);
 
@@ -41,8 +39,6 @@ impl Model for PlacedList {
 
 impl PlacedList {
     /// These statements.
-    ///
-    /// Source: this project's own.
     pub fn from_vec(placed: Vec<Placed>) -> PlacedList
         ensures { result ≡ placed.items }
     {
@@ -50,8 +46,6 @@ impl PlacedList {
     }
 
     /// The statements.
-    ///
-    /// Source: this project's own.
     pub fn as_slice(&self) -> &[Placed]
         ensures { result.now ≡ self.now }
     {
@@ -63,7 +57,6 @@ impl PlacedList {
 ///
 /// No address below 00100 is declared, and the image's pieces lie apart. The start is even, 00400 to 59988. There are at most 20,000
 /// statements.
-/// Source: this project's own.
 #[derive(Drop)]
 pub struct Assembled {
     /// What the statements declare.
@@ -77,8 +70,6 @@ pub struct Assembled {
 }
 
 /// Why a source was not assembled.
-///
-/// Source: this project's own.
 #[derive(Debug, Drop, Error)]
 pub enum AsmFault {
     /// A statement breaks a rule.

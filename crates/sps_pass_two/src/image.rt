@@ -1,4 +1,5 @@
 // The image of a program: the digits that its statements declare, by their addresses.
+// Source: this project's own.
 ghost use Rattle.std.specs.Prelude.{◌≡◌, List, map};
 ghost use Rattle.sps_pass_two.specs.Kept.{IsImage, digit_count};
 
@@ -8,7 +9,6 @@ use std::marker::Model;
 /// Digits, one behind another.
 ///
 /// Contracts see the list of the digits.
-/// Source: this project's own.
 #[derive(Drop)]
 pub struct Digits(Vec<Digit>);
 
@@ -23,8 +23,6 @@ impl Model for Digits {
 
 impl Digits {
     /// These digits.
-    ///
-    /// Source: this project's own.
     pub fn from_vec(digits: Vec<Digit>) -> Digits
         ensures { result ≡ digits.items }
     {
@@ -32,8 +30,6 @@ impl Digits {
     }
 
     /// The digits.
-    ///
-    /// Source: this project's own.
     pub fn as_slice(&self) -> &[Digit]
         ensures { result.now ≡ self.now }
     {
@@ -42,8 +38,6 @@ impl Digits {
 }
 
 /// The digits of a maximal run of declared addresses.
-///
-/// Source: this project's own.
 #[derive(Drop)]
 pub struct Piece {
     /// Its lowest address, 00000 to 59999.
@@ -55,7 +49,6 @@ pub struct Piece {
 /// Pieces in their order.
 ///
 /// Contracts see each as the address of its first digit and its digits.
-/// Source: this project's own.
 #[derive(Drop)]
 pub struct Pieces(Vec<Piece>);
 
@@ -73,8 +66,6 @@ impl Pieces {
     ghost use Rattle.sps_pass_two.specs.Types.{run_of};
 
     /// These pieces.
-    ///
-    /// Source: this project's own.
     pub fn from_vec(pieces: Vec<Piece>) -> Pieces
         ensures { result ≡ map run_of pieces.items }
     {
@@ -82,8 +73,6 @@ impl Pieces {
     }
 
     /// The pieces.
-    ///
-    /// Source: this project's own.
     pub fn as_slice(&self) -> &[Piece]
         ensures { map run_of result.now ≡ self.now }
     {
@@ -94,7 +83,6 @@ impl Pieces {
 /// What a program declares, piece by piece.
 ///
 /// The pieces rise and share no address, none is empty, all digits can stand in a cell, and all addresses are below 60,000.
-/// Source: this project's own.
 #[derive(Drop)]
 pub struct Image {
     /// The maximal runs of declared addresses, rising.
@@ -104,8 +92,6 @@ pub struct Image {
 
 impl Image {
     /// How many addresses are declared, 0 to 60,000.
-    ///
-    /// Source: this project's own.
     pub fn digits(&self) -> u32
         ensures { result ≡ digit_count self.now.pieces }
     {

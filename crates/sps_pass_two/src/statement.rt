@@ -1,4 +1,5 @@
 // Which rules a statement breaks, and the digits that it declares.
+// Source: this project's own.
 ghost use Rattle.std.specs.Prelude.{◌≡◌, [], ◌≤◌, ◌^◌, ◌<◌, List, Bool, length, nat_abs, option_map, is_some, IfOk, None};
 ghost use Rattle.sps_scan.specs.Statement.{statement_text};
 ghost use Rattle.line_words.specs.Blanks.{without_outer_blanks};
@@ -271,8 +272,6 @@ fn outcome_of(
 }
 
 /// The address of a statement's first digit: as many positions before its label's as the declarative says.
-///
-/// Source: this project's own.
 pub(crate) fn first_address(operation: Option<Operation>, place: Place) -> u64
     ensures is { result ≡ first_address operation place }
     ensures small { result ≤ 2 ^ 63 }
@@ -333,8 +332,6 @@ fn outcome_if(
 }
 
 /// The least rule that a statement breaks, or none, and the digits that it declares where it breaks none.
-///
-/// Source: this project's own.
 #[tactic(auto, unfolding(crate::specs::Broken::statement_outcome))]
 pub(crate) fn statement_outcome(
     alloc: Global,

@@ -1,4 +1,5 @@
 pub mod Allowed
+pub mod Fronts
 pub mod Parting
 pub mod Places
 pub mod Statements

@@ -117,7 +117,7 @@ after_back (b ∷ bs) h =
     step h
 
 -- the byte that ends the text before the first comma is a comma
-is_comma : (b : ℕ) → (b == 44) ≡ true → b ≡ 44
+pub is_comma : (b : ℕ) → (b == 44) ≡ true → b ≡ 44
 is_comma b e = grind (arith, nat_tests)
 
 comma_at : (text : List ℕ) → has_comma text ≡ true → slice_index_or text (length (before_comma text)) 0 ≡ 44
@@ -138,7 +138,7 @@ comma_fits (b ∷ bs) h =
     ] in
     step h
 
-after_none : (text : List ℕ) → has_comma text ≡ false → after_comma text ≡ []
+pub after_none : (text : List ℕ) → has_comma text ≡ false → after_comma text ≡ []
 after_none [] h = refl
 after_none (b ∷ bs) h =
     let step = elim (b == 44) as (λ t. (t || has_comma bs) ≡ false → (if t then bs else after_comma bs) ≡ []) [
@@ -148,7 +148,7 @@ after_none (b ∷ bs) h =
     step h
 
 -- one of two cases of a test
-by_test : {A : Type 0} (b : Bool) → (b ≡ true → A) → (b ≡ false → A) → A
+pub by_test : {A : Type 0} (b : Bool) → (b ≡ true → A) → (b ≡ false → A) → A
 by_test true on off = on refl
 by_test false on off = off refl
 

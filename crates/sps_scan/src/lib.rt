@@ -4,8 +4,8 @@
 //! remark. Columns 1 to 5 and 76 to 80 are free. A statement copies nothing: its texts are slices of the line.
 #![tactic(auto)]
 
-ghost use Rattle.std.specs.Prelude.{◌≡◌, map};
-ghost use Rattle.sps_scan.specs.Statement.{statement_text, now_of, statement_of, with_operation, without_parts, shape_of, parts_allowed, all_allowed, is_comment, holds_nothing};
+ghost use Rattle.std.specs.Prelude.{◌≡◌, [], ◌∷◌};
+ghost use Rattle.sps_scan.specs.Statement.{statement_text, statement_of, with_operation, without_parts, shape_of, all_allowed, is_comment, holds_nothing};
 ghost use Rattle.sps_scan.specs.Spans.{AreInPlace};
 
 mod characters;
@@ -82,9 +82,11 @@ fn with_parts<'a>(card: &'a [u8]) -> Statement<'a>
     ensures { statement_text result ≡ with_operation card.now }
 {
     let operation = columns(12, 15, card);
-    let operands = operands_of(trimmed(operation), columns(16, 75, card));
+    let text = columns(16, 75, card);
+    let operands = operands_of(trimmed(operation), text);
+    let front = &text[..text.len() - operands.remark.len()];
     Statement {
-        shape: shape_of(columns(6, 15, card), &operands.parts),
+        shape: shape_of(columns(6, 15, card), front),
         label: columns(6, 11, card),
         operation,
         parts: operands.parts,
@@ -93,26 +95,15 @@ fn with_parts<'a>(card: &'a [u8]) -> Statement<'a>
     }
 }
 
-// Whether columns 6 to 15 and the parts have no other characters than those of the assembler.
-fn shape_of(front: &[u8], parts: &[&[u8]]) -> Shape
-    ensures { result ≡ shape_of front.now (map now_of parts.now) }
+// Whether columns 6 to 15, and the operands in front of the remark, have no other characters than those of the assembler. A comma is one.
+fn shape_of(columns: &[u8], operands: &[u8]) -> Shape
+    ensures { result ≡ shape_of columns.now (operands.now ∷ []) }
 {
-    if all_allowed(front) && parts_allowed(parts) {
+    if all_allowed(columns) && all_allowed(operands) {
         Shape::Plain
     } else {
         Shape::BadColumn
     }
-}
-
-fn parts_allowed(parts: &[&[u8]]) -> bool
-    ensures { result ≡ parts_allowed (map now_of parts.now) }
-{
-    for part in parts {
-        if !all_allowed(part) {
-            return false;
-        }
-    }
-    true
 }
 
 fn all_allowed(text: &[u8]) -> bool
