@@ -87,3 +87,8 @@ none_set placed n change old before after how none sends = subst (λ (b : Bool).
 
 pub all_set : (placed : List PlacedText) (n : ℕ) (change : List ℕ → List ℕ) (old new : List ℕ) (before : Seen) → is_instruction placed n ≡ true → new ≡ change old → Sets placed n change (marks old before) (marks new before) sent.Done
 all_set placed n change old new before some same = subst (λ (b : Bool). SetsIf b n change (marks old before) (marks new before) sent.Done) (sym some) (same, refl, refl)
+
+-- none of them changed where the statement is no instruction
+pub same_set : (placed : List PlacedText) (n : ℕ) (change : List ℕ → List ℕ) (old new : List ℕ) (before after : Seen) (how : Sent) → is_instruction placed n ≡ false → new ≡ old → Sends before after units.Report (no_statement_line n) how
+    → Sets placed n change (marks old before) (marks new after) how
+same_set placed n change old new before after how none same sends = subst (λ (set : List ℕ). Sets placed n change (marks old before) (marks set after) how) (sym same) (none_set placed n change old before after how none sends)

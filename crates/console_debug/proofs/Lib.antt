@@ -1,6 +1,6 @@
-pub mod Addresses
-pub mod Reading
-pub mod Ranges
+pub mod Marks
+pub mod Tables
+pub mod Numbers
 pub mod Numbered
 pub mod ShownCells
 pub mod Courses
@@ -10,6 +10,7 @@ pub mod Looking
 pub mod StoredCells
 pub mod Heading
 pub mod Stops
+pub mod KeptStops
 pub mod Acts
 pub mod Onward
 pub mod DebuggerStates

@@ -1,7 +1,6 @@
 -- Under way to the next stop.
 use Rattle.std.proofs.Common.{◌≡◌, ℕ, suc, ◌+◌, ◌<◌, ◌≤◌, ◌&&◌, max, Bool, true, false, List, [], ◌∷◌, length, refl, sym, ◌∙◌, ap, subst, arith}
 use Rattle.std.specs.Prelude.{Option, Some, None, option_map}
-use Rattle.cpu_step.specs.Machine.{Frames}
 use Rattle.cpu_step.proofs.Exact.{frames_both}
 use Rattle.operator_script.specs.declared.turns.Ending.{Ending}
 use Rattle.operator_script.specs.declared.turns.Ending.TheVariants as ending
@@ -10,7 +9,7 @@ use Rattle.operator_script.specs.Turn.{RunPlace, Turning, Acted, Stepped, Ended,
 use Rattle.sps_pass_two.specs.Assembled.{PlacedText}
 use Rattle.console_debug.specs.Places.{Reached, later, is_at_break, is_stop, turns_to_stop}
 use Rattle.console_debug.specs.Session.{Course, nth_place, places_ahead, place_as_seen}
-use Rattle.console_debug.specs.CursorStates.{CursorState, IsOn, IsFit, IsLed, MovesOn, StaysOn, BreaksOn, Advances, ToAStop, ToTheLast, BreaksBefore, ToStop, came_to_end, turns_or_all}
+use Rattle.console_debug.specs.CursorStates.{CursorState, IsOn, IsFit, IsLed, MovesOn, StaysOn, BreaksOn, Advances, ToAStop, ToTheLast, BreaksBefore, ToStop, came_to_end, turns_or_all, PassesOn}
 use Rattle.console_debug.proofs.Looking.{stays_on, stays_fit, stays_frames}
 use Rattle.console_debug.proofs.Courses.{led_by}
 use Rattle.cpu_step.specs.declared.machine.Mode.{Mode}
@@ -40,16 +39,8 @@ module _ (placed : List PlacedText) (set : List ℕ) where
   none_left = refl
 
   -- after some turns, none of which led to a stop
-  pub record StopHeaded (m : ℕ) (c : Course) (n f : ℕ) (now : CursorState m) : Type 0 where
-    pub turns : ℕ
-    pub on_it : IsLed m c n f turns now
-    pub stop : turns_to_stop placed set (places_ahead c n) ≡ option_map (λ k. turns + k) (turns_to_stop placed set (places_ahead c (n + turns)))
-    pub all : length (places_ahead c n) ≡ turns + length (places_ahead c (n + turns))
-
-  pub record StopHeading (m limit : ℕ) (first now : CursorState m) : Type 0 where
-    pub told : (c : Course) (n f : ℕ) → c.limit ≡ limit → IsOn m c n f first → StopHeaded m c n f now
-    pub fit : IsFit m limit now
-    pub frames : Frames m first.at.machine now.at.machine first.seen now.seen
+  abbrev pub StopHeading : (m limit : ℕ) → CursorState m → CursorState m → Type 0
+  StopHeading m limit first now = PassesOn m limit placed set first now
 
   same_option : (o : Option ℕ) → o ≡ option_map (λ k. 0 + k) o
   same_option None = refl
@@ -78,7 +69,7 @@ module _ (placed : List PlacedText) (set : List ℕ) where
 
   module _ (m limit : ℕ) (first now new : CursorState m) (heading : StopHeading m limit first now) where
     -- one move more, which led to no stop
-    on_by : (leads : RunPlace → Turning) (by_step : Bool) → ((p : RunPlace) → leads p ≡ led_by by_step p) → (by_step ≡ true → stops new.at.machine.mode new.at.machine.regs.ir ≡ false) → MovesOn m limit leads now new → StopHeading m limit first new
+    pub on_by : (leads : RunPlace → Turning) (by_step : Bool) → ((p : RunPlace) → leads p ≡ led_by by_step p) → (by_step ≡ true → stops new.at.machine.mode new.at.machine.regs.ir ≡ false) → MovesOn m limit leads now new → StopHeading m limit first new
     on_by leads by_step is_led none moves = record {
       told = λ c n f within on_first.
           let head = heading.told c n f within on_first in

@@ -1,30 +1,60 @@
--- The breakpoints that are set, with their addresses, and the room for them.
-use Rattle.std.specs.Prelude.{ℕ, ◌≡◌, ◌≤◌, Bool, ◌&&◌, ◌==◌, List, vec_capacity}
-use Rattle.std.specs.List.{filter_map, list_any}
-use Rattle.cpu_step.specs.declared.machine.Mode.{Mode}
-use Rattle.cpu_step.specs.Machine.{is_running}
+-- The breakpoints that are set, and the room for them.
+use Rattle.std.specs.Prelude.{ℕ, suc, ◌≡◌, ◌≤◌, ◌<◌, Bool, ◌==◌, nat_le, List, [], ◌∷◌, length, slice_index_or, count_by, vec_capacity, if◌then◌else◌}
+use Rattle.sps_pass_one.specs.Layout.{most_statements}
 use Rattle.sps_pass_two.specs.Assembled.{PlacedText}
 use Rattle.console_debug.specs.declared.breaks.Breaks.{Breaks}
-use Rattle.console_debug.specs.Places.{statement_address}
+use Rattle.console_debug.specs.Lines.{statement_number}
+use Rattle.console_debug.specs.Places.{statement_address, is_at}
 
--- the addresses are those of the statements, in their order
-abbrev pub HasAddresses : List PlacedText → Breaks → Type 0
-HasAddresses placed breaks = breaks.addresses.items ≡ filter_map (λ s. statement_address placed s) breaks.statements.items
+-- from which entry of the log on those of a statement count
+abbrev pub since_of : List ℕ → ℕ → ℕ
+since_of since s = slice_index_or since s 0
 
--- there is room for so many breakpoints: for their statements, and for their addresses
+-- the entry with a number counts, which is of this statement
+abbrev pub is_set : (ℕ → ℕ) → ℕ → ℕ → Bool
+is_set since number s = nat_le (since s) number
+
+-- those of some entries that count, the first of which has a number
+unfoldable pub set_from : (ℕ → ℕ) → ℕ → List ℕ → List ℕ
+set_from since number [] = []
+set_from since number (s ∷ ss) =
+    if is_set since number s then s ∷ set_from since (suc number) ss else set_from since (suc number) ss
+
+-- THE BREAKPOINTS THAT ARE SET while a session goes on: the statements of the entries that count
+abbrev pub set_now : Breaks → List ℕ
+set_now breaks = set_from (since_of breaks.since.items) 0 breaks.log.items
+
+-- how many of some breakpoints are of a statement, and how many are of one at an address
+abbrev pub times_set : ℕ → List ℕ → ℕ
+times_set s breaks = count_by (λ b. b == s) breaks
+
+abbrev pub count_at : List PlacedText → ℕ → List ℕ → ℕ
+count_at placed address breaks = count_by (λ b. is_at address (statement_address placed b)) breaks
+
+-- by an address the number of the last instruction there, 0 where there is none
+abbrev pub AreNumbers : List PlacedText → List ℕ → Type 0
+AreNumbers placed numbers = (a : ℕ) → a < length numbers → slice_index_or numbers a 0 ≡ statement_number placed a
+
+-- the tables tell of the breakpoints that are set over these statements
+pub record HasTables (placed : List PlacedText) (breaks : Breaks) : Type 0 where
+  pub since_reach : length placed < length breaks.since.items
+  pub times_reach : length placed < length breaks.times.items
+  pub logged : (s : ℕ) → since_of breaks.since.items s ≤ length breaks.log.items
+  pub times : (s : ℕ) → s < length breaks.times.items → slice_index_or breaks.times.items s 0 ≡ times_set s (set_now breaks)
+  pub counts : (a : ℕ) → a < length breaks.counts.items
+      → slice_index_or breaks.counts.items a 0 ≡ count_at placed a (set_now breaks)
+  pub numbers : AreNumbers placed breaks.numbers.items
+
+-- there is room for so many breakpoints, and for what is told of each statement
 abbrev pub HasRoomIn : ℕ → Breaks → Type 0
-HasRoomIn n breaks = (n ≤ vec_capacity breaks.statements) × (n ≤ vec_capacity breaks.addresses)
+HasRoomIn n breaks =
+    (n ≤ vec_capacity breaks.statements) × (n ≤ vec_capacity breaks.log)
+    × (most_statements < length breaks.since.items) × (most_statements < length breaks.times.items)
 
 -- and for as many as before
 abbrev pub HasSameRoom : Breaks → Breaks → Type 0
 HasSameRoom old new =
     (vec_capacity new.statements ≡ vec_capacity old.statements)
-    × (vec_capacity new.addresses ≡ vec_capacity old.addresses)
-
--- one of these addresses is the given one
-abbrev pub has_address : List ℕ → ℕ → Bool
-has_address addresses ir = list_any (λ address. address == ir) addresses
-
--- a machine that runs at one of these addresses, by its mode and its IR
-abbrev pub is_at_address : List ℕ → Mode → ℕ → Bool
-is_at_address addresses mode ir = is_running mode && has_address addresses ir
+    × (vec_capacity new.log ≡ vec_capacity old.log)
+    × (length new.since.items ≡ length old.since.items)
+    × (length new.times.items ≡ length old.times.items)

@@ -10,7 +10,7 @@ use Rattle.operator_script.specs.Run.{Moment, moment_at}
 use Rattle.sps_listing.specs.Listing.{placed_texts}
 use Rattle.sps_pass_two.specs.Assembled.{PlacedText}
 use Rattle.console_debug.specs.declared.debugger.Debugger.{Debugger}
-use Rattle.console_debug.specs.Breakpoints.{HasAddresses, HasRoomIn}
+use Rattle.console_debug.specs.Breakpoints.{HasTables, HasRoomIn, set_now}
 use Rattle.console_debug.specs.Lines.{no_statement_line}
 use Rattle.console_debug.specs.Places.{is_instruction}
 use Rattle.console_debug.specs.Session.{Course, Session, nth_place, says, goes_to, place_line, session_events, turns_in}
@@ -27,7 +27,7 @@ debugger_state m x breaks = record { cursor_state = x; breaks = breaks }
 
 -- the debugger state of a debugger
 abbrev pub debugger_state_of : (m : ℕ) → Debugger m → Seen → DebuggerState m
-debugger_state_of m d seen = debugger_state m (cursor_state_of m d.cursor seen) d.breaks.now.statements.items
+debugger_state_of m d seen = debugger_state m (cursor_state_of m d.cursor seen) (set_now d.breaks.now)
 
 -- one debugger at two of its moments: over the same run, the same kept places, statements and breakpoints
 abbrev pub IsSameDebugger : (m : ℕ) → Debugger m → Debugger m → Type 0
@@ -38,8 +38,8 @@ IsSameDebugger m old new =
 -- a debugger that can carry out a command which sets so many breakpoints at most
 pub record IsReadyFor (m n : ℕ) (d : Debugger m) (seen : Seen) : Type 0 where
   pub fit : IsFit m d.cursor.run.limit (cursor_state_of m d.cursor seen)
-  pub addresses : HasAddresses (placed_texts d.assembled.now) d.breaks.now
-  pub room : HasRoomIn (vec_len d.breaks.now.statements + n) d.breaks.now
+  pub tables : HasTables (placed_texts d.assembled.now) d.breaks.now
+  pub room : HasRoomIn (vec_len d.breaks.now.log + n) d.breaks.now
 
 -- the moment of a debugger state
 abbrev pub moment_of : (m : ℕ) → DebuggerState m → Moment m

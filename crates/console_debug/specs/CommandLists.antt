@@ -8,6 +8,8 @@ use Rattle.console_debug.specs.declared.commands.CommandFault.TheVariants as fau
 use Rattle.console_debug.specs.Breakpoints.{HasRoomIn}
 use Rattle.console_debug.specs.Grammar.{commands_of, is_break, most_back, most_shown}
 use Rattle.line_words.specs.Words.{largest_number}
+use Rattle.line_words.specs.declared.lines.LineFault.{LineFault}
+use Rattle.line_words.specs.declared.lines.LineFault.TheVariants as lines
 
 -- the commands, in their order
 abbrev pub command_list : Commands → List DebugCommand
@@ -36,3 +38,8 @@ abbrev pub Reads : ℕ → List ℕ → Result Commands CommandFault → Type 0
 Reads positions bytes (Ok commands) = commands_of positions bytes ≡ Ok (command_list commands)
 Reads positions bytes (Err (fault.BadLine line)) = commands_of positions bytes ≡ Err line
 Reads positions bytes (Err fault.Memory) = ⊤
+
+-- why commands were not read, by why their lines were not
+abbrev pub fault_of : LineFault → CommandFault
+fault_of (lines.BadLine line) = fault.BadLine line
+fault_of lines.Memory = fault.Memory

@@ -1,5 +1,5 @@
 -- Where a session stands among the places of a run, and what a move on by one place does.
-use Rattle.std.specs.Prelude.{ℕ, suc, Bool, ◌≡◌, ◌+◌, ◌-◌, ◌*◌, ◌<◌, ◌≤◌, ◌⊎◌, true, false, max, nat_lt, All, List, length, slice_get, Option, Some, None, IfSome}
+use Rattle.std.specs.Prelude.{ℕ, suc, Bool, ◌≡◌, ◌+◌, ◌-◌, ◌*◌, ◌<◌, ◌≤◌, ◌⊎◌, true, false, max, nat_lt, All, List, length, slice_get, Option, Some, None, IfSome, option_map}
 use Rattle.digit_core.specs.Mixed.{AgreeOutside}
 use Rattle.digit_core.specs.Size.{size}
 use Rattle.outside_io.specs.World.{Seen, Rose}
@@ -244,3 +244,24 @@ abbrev pub ToStop : (m limit : ℕ) → List PlacedText → List ℕ → CursorS
 ToStop m limit placed breaks old new came.There = ToAStop m limit placed breaks old new
 ToStop m limit placed breaks old new (came.End how) = ToTheLast m limit placed breaks how old new
 ToStop m limit placed breaks old new came.Fault = BreaksBefore m limit placed breaks old new
+
+-- Over the places that are kept.
+
+-- it was led so many turns on, none of which led to a stop
+pub record IsLedOn (m : ℕ) (placed : List PlacedText) (breaks : List ℕ) (c : Course) (n f : ℕ) (now : CursorState m) : Type 0 where
+  pub turns : ℕ
+  pub on_it : IsLed m c n f turns now
+  pub stop : turns_to_stop placed breaks (places_ahead c n)
+      ≡ option_map (λ k. turns + k) (turns_to_stop placed breaks (places_ahead c (n + turns)))
+  pub all : length (places_ahead c n) ≡ turns + length (places_ahead c (n + turns))
+
+-- it was led on, and no stop was on the way
+pub record PassesOn (m limit : ℕ) (placed : List PlacedText) (breaks : List ℕ) (first now : CursorState m) : Type 0 where
+  pub told : (c : Course) (n f : ℕ) → c.limit ≡ limit → IsOn m c n f first → IsLedOn m placed breaks c n f now
+  pub fit : IsFit m limit now
+  pub frames : Frames m first.at.machine now.at.machine first.seen now.seen
+
+-- to the first stop among them, or as far as they lead
+abbrev pub ToKeptStop : (m limit : ℕ) → List PlacedText → List ℕ → CursorState m → CursorState m → Bool → Type 0
+ToKeptStop m limit placed breaks old new true = ToAStop m limit placed breaks old new
+ToKeptStop m limit placed breaks old new false = PassesOn m limit placed breaks old new

@@ -1,81 +1,235 @@
 // The breakpoints that are set.
-ghost use Rattle.std.specs.Prelude.{◌≡◌, ◌≤◌, ◌+◌, ◌++◌, ◌∷◌, [], IfOk, vec_len};
+ghost use Rattle.std.specs.Prelude.{◌≡◌, ◌≤◌, ◌<◌, ◌+◌, ◌-◌, ◌^◌, [], IfOk, length, slice_index_or, slice_set, vec_len, if◌then◌else◌};
 ghost use Rattle.sps_listing.specs.Listing.{placed_texts};
 ghost use Rattle.sps_pass_two.specs.Making.{text_of_placed};
-ghost use Rattle.console_debug.specs.Breakpoints.{HasAddresses, HasRoomIn, HasSameRoom, has_address};
-ghost use Rattle.console_debug.specs.Places.{statement_address, instruction_address};
+ghost use Rattle.console_debug.specs.Breakpoints.{AreNumbers, HasTables, HasRoomIn, HasSameRoom, is_set, set_now, since_of};
+ghost use Rattle.console_debug.specs.Lines.{statement_number};
+ghost use Rattle.console_debug.specs.Places.{has_break, instruction_address, is_at, is_instruction, statement_address};
 ghost use Rattle.console_debug.specs.Session.{with_break, without_break};
 
+use digit_core::MOST_POSITIONS;
+use sps_listing::statement_at;
+use sps_pass_one::MOST_STATEMENTS;
 use sps_pass_two::{Assembled, Placed};
 use std::alloc::{AllocError, Global};
 use std::vec::Vec;
 
-// The statements whose breakpoints are set, and their addresses, in the same order. So no statement is looked up while a run is under way.
+// The statements whose breakpoints are set, as a session leaves them; and while it goes on, what tells at once whether one is set at an
+// address. So no list is looked through while a run is under way, nor where a breakpoint is cleared.
 #[derive(Drop)]
 pub(crate) struct Breaks {
     pub(crate) statements: Vec<u64>,
-    pub(crate) addresses: Vec<u64>,
+    // The statement of each breakpoint that was set in this session, in their order, be it cleared since or not.
+    pub(crate) log: Vec<u64>,
+    // By the number of a statement: from which entry of the log on those of the statement count.
+    pub(crate) since: Vec<usize>,
+    // By the number of a statement: how many of its entries count.
+    pub(crate) times: Vec<usize>,
+    // By an address: how many entries count whose statement is there.
+    pub(crate) counts: Vec<usize>,
+    // By an address: the number of the last instruction there, 0 where there is none.
+    pub(crate) numbers: Vec<u32>,
 }
 
 impl Breaks {
-    // Room for so many breakpoints, none of which is set.
-    pub(crate) fn with_room(alloc: Global, count: usize) -> Result<Breaks, AllocError>
+    // Room for so many breakpoints, none of which is set, in a core of so many positions.
+    pub(crate) fn with_room(
+        alloc: Global,
+        count: usize,
+        positions: u32,
+    ) -> Result<Breaks, AllocError>
         ensures none_set { IfOk result (λ breaks. breaks.statements.items ≡ []) }
         ensures room { IfOk result (HasRoomIn count) }
     {
         let statements = Vec::with_capacity(alloc, count)?;
-        let addresses = Vec::with_capacity(alloc, count)?;
+        let log = Vec::with_capacity(alloc, count)?;
+        let since = vec![in alloc; 0; MOST_STATEMENTS as usize + 1]?;
+        let times = vec![in alloc; 0; MOST_STATEMENTS as usize + 1]?;
+        let reach = positions.min(MOST_POSITIONS) as usize;
+        let counts = vec![in alloc; 0; reach]?;
+        let numbers = vec![in alloc; 0; reach]?;
         Ok(Breaks {
             statements,
-            addresses,
+            log,
+            since,
+            times,
+            counts,
+            numbers,
         })
     }
 
-    // Clears them all.
-    pub(crate) fn clear_all(&mut self)
-        ensures statements { self.new.statements.items ≡ [] }
-        ensures addresses { self.new.addresses.items ≡ [] }
+    // Clears them all, for a session over these statements.
+    pub(crate) fn clear_all(&mut self, assembled: &Assembled)
+        requires { HasRoomIn 0 self.old }
+        ensures none_set { set_now self.new ≡ [] }
+        ensures none_logged { vec_len self.new.log ≡ 0 }
+        ensures tables { HasTables (placed_texts assembled.now) self.new }
         ensures room { HasSameRoom self.old self.new }
     {
-        self.statements.clear();
-        self.addresses.clear();
+        self.log.clear();
+        self.since.fill(0);
+        self.times.fill(0);
+        self.counts.fill(0);
+        fill_numbers(&mut self.numbers, assembled);
     }
 
-    // Sets the breakpoint of a statement, which has this address.
-    pub(crate) fn set(&mut self, statement: u64, address: u64)
-        requires room { HasRoomIn (vec_len self.old.statements + 1) self.old }
-        requires few { vec_len self.old.addresses ≤ vec_len self.old.statements }
-        ensures statements { self.new.statements.items ≡ with_break statement self.old.statements.items }
-        ensures addresses { self.new.addresses.items ≡ self.old.addresses.items ++ address ∷ [] }
+    // Sets the breakpoint of a statement, where it is an instruction; whether it is.
+    pub(crate) fn set(&mut self, assembled: &Assembled, statement: u64) -> bool
+        requires room { HasRoomIn (vec_len self.old.log + 1) self.old }
+        requires tables { HasTables (placed_texts assembled.now) self.old }
+        ensures is { result ≡ is_instruction (placed_texts assembled.now) statement }
+        ensures set { set_now self.new ≡ (if result then with_break statement (set_now self.old) else set_now self.old) }
+        ensures tables { HasTables (placed_texts assembled.now) self.new }
+        ensures len { vec_len self.new.log ≤ vec_len self.old.log + 1 }
         ensures room { HasSameRoom self.old self.new }
     {
-        self.statements.push_reserved(statement);
-        self.addresses.push_reserved(address);
+        let Some(address) = address_of(assembled, statement) else {
+            return false;
+        };
+        raise(&mut self.times, statement as usize);
+        raise(&mut self.counts, address as usize);
+        self.log.push_reserved(statement);
+        true
     }
 
-    // Clears the breakpoint of a statement.
-    pub(crate) fn clear(&mut self, assembled: &Assembled, statement: u64)
-        requires { HasRoomIn (vec_len self.old.statements) self.old }
-        ensures statements { self.new.statements.items ≡ without_break statement self.old.statements.items }
-        ensures addresses { HasAddresses (placed_texts assembled.now) self.new }
-        ensures few { vec_len self.new.statements ≤ vec_len self.old.statements }
+    // Clears the breakpoint of a statement, wherever it was set, where it is an instruction; whether it is.
+    pub(crate) fn clear(&mut self, assembled: &Assembled, statement: u64) -> bool
+        requires tables { HasTables (placed_texts assembled.now) self.old }
+        ensures is { result ≡ is_instruction (placed_texts assembled.now) statement }
+        ensures set { set_now self.new ≡ (if result then without_break statement (set_now self.old) else set_now self.old) }
+        ensures tables { HasTables (placed_texts assembled.now) self.new }
+        ensures len { vec_len self.new.log ≡ vec_len self.old.log }
         ensures room { HasSameRoom self.old self.new }
     {
-        self.statements.retain(|set| *set != statement);
-        self.addresses.clear();
-        for i in 0..self.statements.len() {
-            let Some(address) = address_of(assembled, self.statements[i]) else {
+        let Some(address) = address_of(assembled, statement) else {
+            return false;
+        };
+        let statement = statement as usize;
+        lower(&mut self.counts, address as usize, self.times[statement]);
+        self.since[statement] = self.log.len();
+        self.times[statement] = 0;
+        true
+    }
+
+    // Whether a breakpoint is set at an address.
+    pub(crate) fn has(&self, assembled: &Assembled, ir: u32) -> bool
+        requires { HasTables (placed_texts assembled.now) self.now }
+        ensures { result ≡ has_break (placed_texts assembled.now) (set_now self.now) ir }
+    {
+        let address = ir as usize;
+        if address < self.counts.len() {
+            return self.counts[address] > 0;
+        }
+        self.has_beyond(assembled, ir)
+    }
+
+    // The same for an address that the table of counts does not reach.
+    fn has_beyond(&self, assembled: &Assembled, ir: u32) -> bool
+        requires { HasTables (placed_texts assembled.now) self.now }
+        ensures { result ≡ has_break (placed_texts assembled.now) (set_now self.now) ir }
+    {
+        for number in 0..self.log.len() {
+            let statement = self.log[number];
+            if !self.is_set(number, statement) {
                 continue;
-            };
-            self.addresses.push_reserved(address);
+            }
+            if is_at(assembled, statement, ir) {
+                return true;
+            }
+        }
+        false
+    }
+
+    // Whether the entry of the log with this number counts, which is this statement's.
+    fn is_set(&self, number: usize, statement: u64) -> bool
+        ensures { result ≡ is_set (since_of self.now.since.items) number statement }
+    {
+        match self.since.get(statement as usize) {
+            Some(since) => *since <= number,
+            None => true,
         }
     }
 
-    // Whether one of the statements is at the address.
-    pub(crate) fn has(&self, ir: u32) -> bool
-        ensures { result ≡ has_address self.now.addresses.items ir }
+    // The number of the last instruction at an address, 0 where there is none.
+    pub(crate) fn number_at(&self, assembled: &Assembled, at: u32) -> u32
+        requires { HasTables (placed_texts assembled.now) self.now }
+        ensures { result ≡ statement_number (placed_texts assembled.now) at }
     {
-        self.addresses.contains(&u64::from(ir))
+        let address = at as usize;
+        if address < self.numbers.len() {
+            return self.numbers[address];
+        }
+        statement_at(assembled, at).unwrap_or(0)
+    }
+
+    // Keeps the statements whose breakpoints are set, behind a session.
+    pub(crate) fn settle(&mut self)
+        requires { HasRoomIn (vec_len self.old.log) self.old }
+        ensures statements { self.new.statements.items ≡ set_now self.old }
+        ensures room { HasSameRoom self.old self.new }
+    {
+        self.statements.clear();
+        for number in 0..self.log.len() {
+            let statement = self.log[number];
+            if !self.is_set(number, statement) {
+                continue;
+            }
+            self.statements.push_reserved(statement);
+        }
+    }
+}
+
+// One more at a place of a table, where it reaches so far.
+fn raise(table: &mut Vec<usize>, at: usize)
+    requires { slice_index_or table.old.items at 0 < 2 ^ 63 }
+    ensures { table.new.items ≡ slice_set table.old.items at (slice_index_or table.old.items at 0 + 1) }
+{
+    if at < table.len() {
+        table[at] += 1;
+    }
+}
+
+// So many fewer at a place of a table, where it reaches so far.
+fn lower(table: &mut Vec<usize>, at: usize, by: usize)
+    requires { at < length table.old.items → by ≤ slice_index_or table.old.items at 0 }
+    ensures { table.new.items ≡ slice_set table.old.items at (slice_index_or table.old.items at 0 - by) }
+{
+    if at < table.len() {
+        table[at] -= by;
+    }
+}
+
+// A number at a place of a table, where it reaches so far.
+fn put(table: &mut Vec<u32>, at: usize, number: u32)
+    ensures { table.new.items ≡ slice_set table.old.items at number }
+{
+    if at < table.len() {
+        table[at] = number;
+    }
+}
+
+// Fills the table of the numbers of statements.
+fn fill_numbers(numbers: &mut Vec<u32>, assembled: &Assembled)
+    ensures { AreNumbers (placed_texts assembled.now) numbers.new.items }
+{
+    numbers.fill(0);
+    let mut number = 0;
+    for placed in assembled.placed.as_slice() {
+        number += 1;
+        let Some(address) = instruction_address(placed) else {
+            continue;
+        };
+        put(numbers, address as usize, number);
+    }
+}
+
+// Whether a statement is an instruction at the address.
+fn is_at(assembled: &Assembled, statement: u64, ir: u32) -> bool
+    ensures { result ≡ is_at ir (statement_address (placed_texts assembled.now) statement) }
+{
+    match address_of(assembled, statement) {
+        Some(address) => address == u64::from(ir),
+        None => false,
     }
 }
 
@@ -91,7 +245,7 @@ fn instruction_address(placed: &Placed) -> Option<u64>
 }
 
 // The address of a statement, where it is an instruction; the first statement is 1.
-pub(crate) fn address_of(assembled: &Assembled, statement: u64) -> Option<u64>
+fn address_of(assembled: &Assembled, statement: u64) -> Option<u64>
     ensures { result ≡ statement_address (placed_texts assembled.now) statement }
 {
     let place = usize::try_from(statement.checked_sub(1)?).ok()?;

@@ -1,18 +1,21 @@
 // The debugger's commands.
-ghost use Rattle.std.specs.Prelude.{◌≡◌, [], All, IfOk, count_by};
-ghost use Rattle.console_debug.specs.CommandLists.{Reads, IsCommand, HasRoom, breakpoints, command_list};
-ghost use Rattle.console_debug.specs.Grammar.{command_of, is_break, numbered_command, plain_of, show_of, show_within};
+// Source: this project's own.
+ghost use Rattle.std.specs.Prelude.{◌≡◌, [], All, IfOk, IfSome, count_by};
+ghost use Rattle.console_debug.specs.CommandLists.{Reads, IsCommand, HasRoom, breakpoints, command_list, fault_of};
+ghost use Rattle.console_debug.specs.Grammar.{command_of, is_break};
 ghost use Rattle.console_debug.specs.declared.commands.CommandFault.TheVariants.{Memory};
 
 use crate::breaks::Breaks;
-use line_words::{cut_word, number, number_in};
-use outside_io::split_line;
+use line_words::{
+    LineFault, LineGrammar, alone, cut_word, number, number_in, one_word, read_lines, span_below,
+    two_words,
+};
 use std::alloc::{AllocError, Global};
 use std::vec::Vec;
 use thiserror::Error;
 
 // How many cells one command shows at most.
-const MOST_SHOWN: u64 = 1_000;
+const MOST_SHOWN: u32 = 1_000;
 
 // How many places one command goes back at most.
 const MOST_BACK: u64 = 1_000;
@@ -20,7 +23,6 @@ const MOST_BACK: u64 = 1_000;
 /// What the debugger is told to do.
 ///
 /// Statements are counted from 1, addresses and cells are those of core.
-/// Source: this project's own.
 #[derive(Clone, Copy, Debug, PartialEq, Eq)]
 pub enum DebugCommand {
     /// `GO`: run up to a breakpoint, or to the end of the run.
@@ -45,8 +47,6 @@ pub enum DebugCommand {
 }
 
 /// Why commands were not read.
-///
-/// Source: this project's own.
 #[derive(Debug, Drop, Error)]
 pub enum CommandFault {
     /// The first line outside the grammar, by its number; all lines are counted, from 1.
@@ -65,9 +65,36 @@ impl From<AllocError> for CommandFault {
     }
 }
 
+impl From<LineFault> for CommandFault {
+    ghost from_gives = { λ fault e. e ≡ fault_of fault };
+
+    fn from(fault: LineFault) -> Self {
+        match fault {
+            LineFault::BadLine(line) => CommandFault::BadLine(line),
+            LineFault::Memory => CommandFault::Memory,
+        }
+    }
+}
+
+// How the lines of commands are read, for a core of so many positions.
+#[derive(Drop)]
+struct CommandGrammar {
+    positions: u32,
+}
+
+impl LineGrammar for CommandGrammar {
+    type Item = DebugCommand;
+
+    ghost item_of = { λ grammar. command_of grammar.positions };
+
+    ghost IsItem = { λ grammar. IsCommand grammar.positions };
+
+    fn read_line(&self, text: &[u8]) -> Option<DebugCommand> {
+        command_of(text, self.positions)
+    }
+}
+
 /// The debugger's commands, and the statements whose breakpoints are set.
-///
-/// Source: this project's own.
 #[derive(Drop)]
 pub struct Commands {
     pub(crate) list: Vec<DebugCommand>,
@@ -82,37 +109,22 @@ impl Commands {
     /// `BREAK s`, `CLEAR s`, `SHOW a n` or `QUIT`. A number has 1 to 15 decimal digits; that of `BACK` is 1 to 1,000. `SHOW` shows 1 to
     /// 1,000 cells, all of which are in core. Words are in capitals.
     ///
-    /// No breakpoint is set at first, and there is room for one for each `BREAK`, with its address.
+    /// No breakpoint is set at first, and there is room for one for each `BREAK`, and for what a session tells of the statements and
+    /// addresses of those that are set.
     ///
     /// The errors are the first line outside this grammar, by its number, and want of memory for the commands and that room.
-    /// Source: this project's own.
     pub fn read(alloc: Global, bytes: &[u8], positions: u32) -> Result<Commands, CommandFault>
         ensures lines { Reads positions bytes.now result }
         ensures fits { IfOk result (λ commands. All (IsCommand positions) (command_list commands)) }
         ensures none_set { IfOk result (λ commands. breakpoints commands ≡ []) }
         ensures room { IfOk result HasRoom }
     {
-        let mut list = Vec::new(alloc);
-        let mut number = 0;
-        let mut rest = bytes;
-        while let Some((text, behind)) = split_line(rest) {
-            number += 1;
-            rest = behind;
-            if text.is_empty() {
-                continue;
-            }
-            let Some(command) = command_of(text, positions) else {
-                return Err(CommandFault::BadLine(number));
-            };
-            list.push(command).map_err(AllocError::from)?;
-        }
-        let breaks = Breaks::with_room(alloc, count_breaks(&list))?;
+        let list = read_lines(alloc, &CommandGrammar { positions }, bytes)?;
+        let breaks = Breaks::with_room(alloc, count_breaks(&list), positions)?;
         Ok(Commands { list, breaks })
     }
 
     /// The commands, in their order.
-    ///
-    /// Source: this project's own.
     pub fn list(&self) -> &[DebugCommand]
         ensures { result.now ≡ command_list self.now }
     {
@@ -120,8 +132,6 @@ impl Commands {
     }
 
     /// The statements whose breakpoints are set.
-    ///
-    /// Source: this project's own.
     pub fn breakpoints(&self) -> &[u64]
         ensures { result.now ≡ breakpoints self.now }
     {
@@ -143,76 +153,32 @@ fn is_break(command: DebugCommand) -> bool
     matches!(command, DebugCommand::Break(_))
 }
 
-// The command of a text of one to three words.
+// The command of a text: its word, and the arguments that stand behind it.
 fn command_of(text: &[u8], positions: u32) -> Option<DebugCommand>
-    ensures { result ≡ command_of positions text.now }
+    ensures value { result ≡ command_of positions text.now }
+    ensures fits { IfSome result (IsCommand positions) }
 {
     let (word, behind) = cut_word(text);
-    let Some(behind) = behind else {
-        return plain_of(word);
-    };
-    let (first, behind) = cut_word(behind);
-    let Some(behind) = behind else {
-        return numbered_of(word, first);
-    };
-    match cut_word(behind) {
-        (second, None) => show_of(positions, word, first, second),
-        (_, Some(_)) => None,
-    }
-}
-
-// `GO`, `QUIT`.
-fn plain_of(word: &[u8]) -> Option<DebugCommand>
-    ensures { result ≡ plain_of word.now }
-{
     if word == b"GO".as_slice() {
-        Some(DebugCommand::Go)
-    } else if word == b"QUIT".as_slice() {
-        Some(DebugCommand::Quit)
-    } else {
-        None
-    }
-}
-
-// `STEP n`, `BREAK s`, `CLEAR s`, `BACK n`.
-fn numbered_of(word: &[u8], n: &[u8]) -> Option<DebugCommand>
-    ensures { result ≡ numbered_command word.now n.now }
-{
-    if word == b"STEP".as_slice() {
-        Some(DebugCommand::Step(number(n)?))
-    } else if word == b"BREAK".as_slice() {
-        Some(DebugCommand::Break(number(n)?))
-    } else if word == b"CLEAR".as_slice() {
-        Some(DebugCommand::Clear(number(n)?))
+        alone(DebugCommand::Go, behind)
+    } else if word == b"STEP".as_slice() {
+        Some(DebugCommand::Step(number(one_word(behind)?)?))
     } else if word == b"BACK".as_slice() {
-        Some(DebugCommand::Back(number_in(1, MOST_BACK, n)?))
+        Some(DebugCommand::Back(number_in(1, MOST_BACK, one_word(behind)?)?))
+    } else if word == b"BREAK".as_slice() {
+        Some(DebugCommand::Break(number(one_word(behind)?)?))
+    } else if word == b"CLEAR".as_slice() {
+        Some(DebugCommand::Clear(number(one_word(behind)?)?))
+    } else if word == b"SHOW".as_slice() {
+        let (at, count) = two_words(behind)?;
+        let cells = span_below(positions, MOST_SHOWN, at, count)?;
+        Some(DebugCommand::Show {
+            at: cells.first,
+            count: cells.count,
+        })
+    } else if word == b"QUIT".as_slice() {
+        alone(DebugCommand::Quit, behind)
     } else {
         None
     }
-}
-
-// `SHOW a n`.
-fn show_of(positions: u32, word: &[u8], at: &[u8], count: &[u8]) -> Option<DebugCommand>
-    ensures { result ≡ show_of positions word.now at.now count.now }
-{
-    if word != b"SHOW".as_slice() {
-        return None;
-    }
-    let at = number(at)?;
-    let count = number_in(1, MOST_SHOWN, count)?;
-    show_within(positions, at, count)
-}
-
-// So many cells from an address on, where they are in core.
-fn show_within(positions: u32, at: u64, count: u64) -> Option<DebugCommand>
-    ensures { result ≡ show_within positions at count }
-{
-    let most = u64::from(positions).checked_sub(count)?;
-    if at > most {
-        return None;
-    }
-    Some(DebugCommand::Show {
-        at: at as u32,
-        count: count as u32,
-    })
 }

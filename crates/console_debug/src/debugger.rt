@@ -1,4 +1,5 @@
 // A session of the debugger.
+// Source: this project's own.
 ghost use Rattle.std.specs.Prelude.{◌≡◌, ◌≤◌, ◌+◌, [], All, false, vec_len};
 ghost use Rattle.outside_io.specs.declared.host.Unit.TheVariants as units;
 ghost use Rattle.outside_io.specs.Whole.{Sends};
@@ -7,7 +8,7 @@ ghost use Rattle.cpu_step.specs.Machine.{is_faulted};
 ghost use Rattle.operator_script.specs.Scripts.{IsLine, lines_left};
 ghost use Rattle.operator_script.specs.Run.{moment};
 ghost use Rattle.sps_listing.specs.Listing.{placed_texts};
-ghost use Rattle.console_debug.specs.Breakpoints.{HasAddresses, HasRoomIn, HasSameRoom};
+ghost use Rattle.console_debug.specs.Breakpoints.{HasTables, HasRoomIn, HasSameRoom, set_now};
 ghost use Rattle.console_debug.specs.CommandLists.{IsCommand, HasRoom, breakpoints, command_list};
 ghost use Rattle.console_debug.specs.Grammar.{break_count, most_shown};
 ghost use Rattle.console_debug.specs.Session as does;
@@ -15,7 +16,7 @@ ghost use Rattle.console_debug.specs.Lines.{show_line};
 ghost use Rattle.console_debug.specs.Carries.{Carries, IsReadyFor, IsSameDebugger, Sets, marks, debugger_state_of};
 ghost use Rattle.console_debug.specs.Debugs.{Debugs, task, without_count};
 
-use crate::breaks::{Breaks, address_of};
+use crate::breaks::Breaks;
 use crate::commands::{Commands, DebugCommand};
 use crate::lines::{no_statement_line, show_line};
 use crate::walking::Cursor;
@@ -26,8 +27,6 @@ use rewind_log::Rewind;
 use sps_pass_two::Assembled;
 
 /// How a session ends.
-///
-/// Source: this project's own.
 #[derive(Clone, Copy, Debug, PartialEq, Eq)]
 pub enum SessionEnd {
     /// At `QUIT`, or at the end of the commands.
@@ -69,7 +68,6 @@ pub enum SessionEnd {
 /// `Failed` only where the host's count of faults rose: a first part of that list was done, up to a part of one line or of one turn. What
 /// was printed, punched and typed, the sectors, the machine, the cards and the keyboard's lines that are left, and the script are all of
 /// that one moment: where a line was cut short, behind all turns before it; within a turn that was cut short, behind a part of it.
-/// Source: this project's own.
 pub fn session<const M: u32, H: Host>(
     machine: &mut Machine<M>,
     script: &mut Script,
@@ -91,7 +89,35 @@ pub fn session<const M: u32, H: Host>(
     ensures kept { command_list commands.new ≡ command_list commands.old }
     ensures room { HasRoom commands.new }
 {
-    commands.breaks.clear_all();
+    let end = carry_out_all(machine, script, limit, assembled, commands, rewind, host);
+    commands.breaks.settle();
+    end
+}
+
+// Carries the commands out, beside which the breakpoints that are set are told by tables.
+fn carry_out_all<const M: u32, H: Host>(
+    machine: &mut Machine<M>,
+    script: &mut Script,
+    limit: u64,
+    assembled: &Assembled,
+    commands: &mut Commands,
+    rewind: &mut Rewind<M>,
+    host: &mut H,
+) -> SessionEnd
+    requires mode { is_faulted machine.old.mode ≡ false }
+    requires lines { All (IsLine (size M)) (lines_left script.old) }
+    requires fits { All (IsCommand (size M)) (command_list commands.old) }
+    requires room { HasRoom commands.old }
+    requires empty { rewind.old ≡ [] }
+    ensures does { let given = task limit (placed_texts assembled.now) (command_list commands.old) in
+        let before = moment M machine.old script.old 0 (H.seen host.old) in
+        let after = without_count M machine.new script.new (H.seen host.new) in
+        Debugs M given before after (set_now commands.new.breaks) result }
+    ensures kept { command_list commands.new ≡ command_list commands.old }
+    ensures logged { HasRoomIn (vec_len commands.new.breaks.log) commands.new.breaks }
+    ensures room { HasRoom commands.new }
+{
+    commands.breaks.clear_all(assembled);
     rewind.keep(machine, 0);
     let run = Run {
         machine,
@@ -145,8 +171,8 @@ impl<const M: u32> Debugger<'_, '_, '_, '_, M> {
         ensures carries { let before = debugger_state_of M self.old (H.seen host.old) in
             let after = debugger_state_of M self.new (H.seen host.new) in
             Carries M self.old.cursor.run.limit (placed_texts self.old.assembled.now) (does.session_after command) before after result }
-        ensures addresses { HasAddresses (placed_texts self.old.assembled.now) self.new.breaks.now }
-        ensures len { vec_len self.new.breaks.now.statements ≤ vec_len self.old.breaks.now.statements + break_count command }
+        ensures tables { HasTables (placed_texts self.old.assembled.now) self.new.breaks.now }
+        ensures len { vec_len self.new.breaks.now.log ≤ vec_len self.old.breaks.now.log + break_count command }
         ensures room { HasSameRoom self.old.breaks.now self.new.breaks.now }
     {
         match command {
@@ -178,22 +204,20 @@ fn set_break<H: Host>(
     breaks: &mut Breaks,
     host: &mut H,
 ) -> Sent
-    requires room { HasRoomIn (vec_len breaks.old.statements + 1) breaks.old }
-    requires addresses { HasAddresses (placed_texts assembled.now) breaks.old }
+    requires room { HasRoomIn (vec_len breaks.old.log + 1) breaks.old }
+    requires tables { HasTables (placed_texts assembled.now) breaks.old }
     ensures sets { let placed = placed_texts assembled.now in
-        let before = marks breaks.old.statements.items (H.seen host.old) in
-        let after = marks breaks.new.statements.items (H.seen host.new) in
+        let before = marks (set_now breaks.old) (H.seen host.old) in
+        let after = marks (set_now breaks.new) (H.seen host.new) in
         Sets placed statement (does.with_break statement) before after result }
-    ensures addresses { HasAddresses (placed_texts assembled.now) breaks.new }
-    ensures len { vec_len breaks.new.statements ≤ vec_len breaks.old.statements + 1 }
+    ensures tables { HasTables (placed_texts assembled.now) breaks.new }
+    ensures len { vec_len breaks.new.log ≤ vec_len breaks.old.log + 1 }
     ensures room { HasSameRoom breaks.old breaks.new }
 {
-    match address_of(assembled, statement) {
-        Some(address) => {
-            breaks.set(statement, address);
-            Sent::Done
-        }
-        None => write_all(host, Unit::Report, no_statement_line(statement).as_bytes()),
+    if breaks.set(assembled, statement) {
+        Sent::Done
+    } else {
+        write_all(host, Unit::Report, no_statement_line(statement).as_bytes())
     }
 }
 
@@ -204,18 +228,16 @@ fn clear_break<H: Host>(
     breaks: &mut Breaks,
     host: &mut H,
 ) -> Sent
-    requires room { HasRoomIn (vec_len breaks.old.statements) breaks.old }
-    requires addresses { HasAddresses (placed_texts assembled.now) breaks.old }
+    requires { HasTables (placed_texts assembled.now) breaks.old }
     ensures sets { let placed = placed_texts assembled.now in
-        let before = marks breaks.old.statements.items (H.seen host.old) in
-        let after = marks breaks.new.statements.items (H.seen host.new) in
+        let before = marks (set_now breaks.old) (H.seen host.old) in
+        let after = marks (set_now breaks.new) (H.seen host.new) in
         Sets placed statement (does.without_break statement) before after result }
-    ensures addresses { HasAddresses (placed_texts assembled.now) breaks.new }
-    ensures len { vec_len breaks.new.statements ≤ vec_len breaks.old.statements }
+    ensures tables { HasTables (placed_texts assembled.now) breaks.new }
+    ensures len { vec_len breaks.new.log ≡ vec_len breaks.old.log }
     ensures room { HasSameRoom breaks.old breaks.new }
 {
-    if address_of(assembled, statement).is_some() {
-        breaks.clear(assembled, statement);
+    if breaks.clear(assembled, statement) {
         Sent::Done
     } else {
         write_all(host, Unit::Report, no_statement_line(statement).as_bytes())

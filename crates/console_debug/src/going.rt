@@ -2,7 +2,7 @@
 ghost use Rattle.std.specs.Prelude.{◌<◌, ℕ, List, true, length};
 ghost use Rattle.sps_listing.specs.Listing.{placed_texts};
 ghost use Rattle.sps_pass_two.specs.Assembled.{PlacedText};
-ghost use Rattle.console_debug.specs.Breakpoints.{HasAddresses};
+ghost use Rattle.console_debug.specs.Breakpoints.{HasTables, set_now};
 ghost use Rattle.console_debug.specs.Carries.{Carries, debugger_state, step_on};
 ghost use Rattle.console_debug.specs.Session as does;
 ghost use Rattle.console_debug.specs.CursorStates.{IsFit, IsSameCursor, IsStepAhead, cursor_state_of};
@@ -24,15 +24,16 @@ impl<const M: u32> Cursor<'_, '_, M> {
         host: &mut H,
     ) -> Sent
         requires sound { IsFit M self.old.run.limit (cursor_state_of M self.old (H.seen host.old)) }
-        requires addresses { HasAddresses (placed_texts assembled.now) breaks.now }
+        requires tables { HasTables (placed_texts assembled.now) breaks.now }
         ensures same { IsSameCursor M self.old self.new }
-        ensures carries { let before = debugger_state M (cursor_state_of M self.old (H.seen host.old)) breaks.now.statements.items in
-            let after = debugger_state M (cursor_state_of M self.new (H.seen host.new)) breaks.now.statements.items in
+        ensures carries { let before = debugger_state M (cursor_state_of M self.old (H.seen host.old)) (set_now breaks.now) in
+            let after = debugger_state M (cursor_state_of M self.new (H.seen host.new)) (set_now breaks.now) in
             Carries M self.old.run.limit (placed_texts assembled.now) does.go before after result }
     {
-        match self.to_stop(breaks, host) {
+        match self.to_stop(assembled, breaks, host) {
             Came::There => {
-                let line = break_line(assembled, self.run.machine.regs.ir, self.run.steps);
+                let ir = self.run.machine.regs.ir;
+                let line = break_line(breaks.number_at(assembled, ir), ir, self.run.steps);
                 write_all(host, Unit::Report, line.as_bytes())
             }
             Came::End(how) => {

@@ -1,10 +1,10 @@
 // The lines that a debugger prints, and the line of a run's end.
-ghost use Rattle.std.specs.Prelude.{◌≡◌, ◌≤◌, ◌+◌, ◌++◌, ◌∷◌, [], length, IfOk};
+ghost use Rattle.std.specs.Prelude.{◌≡◌, ◌≤◌, ◌+◌, ◌++◌, ◌∷◌, [], length, IfOk, List};
 ghost use Rattle.digit_core.specs.{IsGood, size};
 ghost use Rattle.report_lines.specs.Numbers.{digits_to_width};
-ghost use Rattle.sps_listing.specs.Listing.{placed_texts};
+ghost use Rattle.sps_pass_two.specs.Assembled.{PlacedText};
 ghost use Rattle.console_debug.specs.Grammar.{most_shown};
-ghost use Rattle.console_debug.specs.Lines.{ending_line, at_line, break_line, no_back_line, no_statement_line, show_line, shown_cell};
+ghost use Rattle.console_debug.specs.Lines.{ending_line, at_line, break_line, no_back_line, no_statement_line, show_line, shown_cell, statement_number};
 
 use arrayvec::{ArrayString, ArrayVec};
 use card_code::object_char;
@@ -14,8 +14,6 @@ use report_lines::{
     LONGEST_LINE, check_line, counted_line, halt_line, jam_line, limit_line, need_cards_line,
     need_keys_line, push_at_steps, push_padded, steps_line,
 };
-use sps_listing::statement_at;
-use sps_pass_two::Assembled;
 
 // Room for an address of at most ten digits, a blank, a thousand cells and LF.
 pub(crate) const LONGEST_SHOWN: usize = 1024;
@@ -47,11 +45,10 @@ pub(crate) fn at_line(at: u32, steps: u64) -> ArrayString<LONGEST_LINE>
     steps_line("AT ", at, steps)
 }
 
-// The line of a breakpoint at an address; the statement is 0 where none is an instruction there.
-pub(crate) fn break_line(assembled: &Assembled, at: u32, steps: u64) -> ArrayString<LONGEST_LINE>
-    ensures { result.bytes ≡ break_line (placed_texts assembled.now) at steps }
+// The line of a breakpoint at an address, where this is the number of the last instruction, or 0 where there is none.
+pub(crate) fn break_line(statement: u32, at: u32, steps: u64) -> ArrayString<LONGEST_LINE>
+    ensures { (placed : List PlacedText) → statement ≡ statement_number placed at → result.bytes ≡ break_line placed at steps }
 {
-    let statement = statement_at(assembled, at).unwrap_or(0);
     let mut line = ArrayString::new();
     line.push_str("BREAK ");
     push_padded(&mut line, 5, statement);

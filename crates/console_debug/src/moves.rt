@@ -1,13 +1,17 @@
 // How the places of a run are gone over, up to a stop or to a step.
-ghost use Rattle.std.specs.Prelude.{◌≡◌, List};
-ghost use Rattle.sps_pass_two.specs.Assembled.{PlacedText};
-ghost use Rattle.console_debug.specs.Breakpoints.{HasAddresses, is_at_address};
-ghost use Rattle.console_debug.specs.CursorStates.{IsFit, IsSameCursor, ToStep, ToStop, came_to_end, cursor_state_of};
+ghost use Rattle.std.specs.Prelude.{◌≡◌, ◌<◌, IfSome, length, slice_get};
+ghost use Rattle.outside_io.specs.World.{Seen};
+ghost use Rattle.sps_listing.specs.Listing.{placed_texts};
+ghost use Rattle.console_debug.specs.Breakpoints.{HasTables, set_now};
+ghost use Rattle.console_debug.specs.CursorStates.{IsFit, IsSameCursor, ToKeptStop, ToStep, ToStop, came_to_end, cursor_state_of};
+ghost use Rattle.console_debug.specs.Places.{is_at_break};
 
 use crate::breaks::Breaks;
 use crate::walking::Cursor;
+use cpu_step::Mode;
 use operator_script::{Ending, Run, TurnEnd};
 use outside_io::Host;
+use sps_pass_two::Assembled;
 
 // How far the moves came.
 #[derive(Clone, Copy)]
@@ -33,34 +37,102 @@ impl Came {
 }
 
 // Whether a machine runs at a breakpoint.
-fn is_at_break<const M: u32>(run: &Run<M>, breaks: &Breaks) -> bool
+fn is_at_break<const M: u32>(run: &Run<M>, assembled: &Assembled, breaks: &Breaks) -> bool
+    requires { HasTables (placed_texts assembled.now) breaks.now }
     ensures { let machine = run.now.machine.now in
-        result ≡ is_at_address breaks.now.addresses.items machine.mode machine.regs.ir }
+        result ≡ is_at_break (placed_texts assembled.now) (set_now breaks.now) machine.mode machine.regs.ir }
 {
-    run.machine.is_running() && breaks.has(run.machine.regs.ir)
+    runs_at_break(assembled, breaks, run.machine.mode, run.machine.regs.ir)
+}
+
+// Whether a machine that is in this mode runs at a breakpoint.
+fn runs_at_break(assembled: &Assembled, breaks: &Breaks, mode: Mode, ir: u32) -> bool
+    requires { HasTables (placed_texts assembled.now) breaks.now }
+    ensures { result ≡ is_at_break (placed_texts assembled.now) (set_now breaks.now) mode ir }
+{
+    match mode {
+        Mode::Running => breaks.has(assembled, ir),
+        _ => false,
+    }
 }
 
 impl<const M: u32> Cursor<'_, '_, M> {
     // On to the next place behind a step at a breakpoint, or to the end of the run.
-    pub(crate) fn to_stop<H: Host>(&mut self, breaks: &Breaks, host: &mut H) -> Came
-        requires { IsFit M self.old.run.limit (cursor_state_of M self.old (H.seen host.old)) }
+    pub(crate) fn to_stop<H: Host>(
+        &mut self,
+        assembled: &Assembled,
+        breaks: &Breaks,
+        host: &mut H,
+    ) -> Came
+        requires sound { IsFit M self.old.run.limit (cursor_state_of M self.old (H.seen host.old)) }
+        requires tables { HasTables (placed_texts assembled.now) breaks.now }
         ensures same { IsSameCursor M self.old self.new }
-        ensures stops { (placed : List PlacedText) → HasAddresses placed breaks.now →
-            let before = cursor_state_of M self.old (H.seen host.old) in
+        ensures stops { let before = cursor_state_of M self.old (H.seen host.old) in
             let after = cursor_state_of M self.new (H.seen host.new) in
-            ToStop M self.old.run.limit placed breaks.now.statements.items before after result }
+            ToStop M self.old.run.limit (placed_texts assembled.now) (set_now breaks.now) before after result }
     {
+        if self.to_kept_stop(assembled, breaks) {
+            return Came::There;
+        }
         loop {
             match self.advance(host) {
                 TurnEnd::Acted => {}
                 TurnEnd::Stepped => {
-                    if is_at_break(&self.run, breaks) {
+                    if is_at_break(&self.run, assembled, breaks) {
                         return Came::There;
                     }
                 }
                 TurnEnd::Ended(how) => return Came::at_end(how),
             }
         }
+    }
+
+    // On over the places that are kept, to the first one behind a step at a breakpoint, or else to the newest; whether it is at a
+    // breakpoint. The machine is brought to that place alone.
+    fn to_kept_stop(&mut self, assembled: &Assembled, breaks: &Breaks) -> bool
+        requires few { self.old.behind < length self.old.rewind.now }
+        requires tables { HasTables (placed_texts assembled.now) breaks.now }
+        ensures same { IsSameCursor M self.old self.new }
+        ensures stops { (seen : Seen) →
+            let before = cursor_state_of M self.old seen in
+            let after = cursor_state_of M self.new seen in
+            IsFit M self.old.run.limit before
+            → ToKeptStop M self.old.run.limit (placed_texts assembled.now) (set_now breaks.now) before after result }
+    {
+        let mut steps = self.run.steps;
+        let mut behind = self.behind;
+        while behind > 0 {
+            let i = self.rewind.len() - behind;
+            let count = self.rewind.count_at(i);
+            behind -= 1;
+            if count > steps && self.is_kept_stop(i, assembled, breaks) {
+                self.behind = behind;
+                self.go_to_kept(i);
+                return true;
+            }
+            steps = count;
+        }
+        if self.behind > 0 {
+            let newest = self.rewind.len() - 1;
+            self.behind = 0;
+            self.go_to_kept(newest);
+        }
+        false
+    }
+
+    // Whether the machine of a kept place runs at a breakpoint.
+    fn is_kept_stop(&self, i: u32, assembled: &Assembled, breaks: &Breaks) -> bool
+        requires inside { i < length self.now.rewind.now }
+        requires tables { HasTables (placed_texts assembled.now) breaks.now }
+        ensures { IfSome (slice_get self.now.rewind.now i)
+            (λ k. result ≡ is_at_break (placed_texts assembled.now) (set_now breaks.now) k.mode k.regs.ir) }
+    {
+        runs_at_break(
+            assembled,
+            breaks,
+            self.rewind.mode_at(i),
+            self.rewind.regs_at(i).ir,
+        )
     }
 
     // On to the place of the next step, or to the end of the run.

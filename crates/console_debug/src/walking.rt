@@ -76,7 +76,7 @@ impl<const M: u32> Cursor<'_, '_, M> {
     }
 
     // A kept place is gone to.
-    fn go_to_kept(&mut self, i: u32)
+    pub(crate) fn go_to_kept(&mut self, i: u32)
         requires { i < length self.old.rewind.now }
         ensures same { KeepsScriptAndPlaces M self.old self.new }
         ensures behind { self.new.behind ≡ self.old.behind }

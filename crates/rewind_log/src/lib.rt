@@ -108,6 +108,34 @@ impl<const M: u32> Rewind<M> {
         }
     }
 
+    /// The registers of the place number `i`, of which the oldest is number 0.
+    ///
+    /// `i` is below the number of kept places.
+    /// Source: this project's own.
+    pub fn regs_at(&self, i: u32) -> Regs
+        requires { i < length self.now }
+        ensures { IfSome (slice_get self.now i) (λ k. result ≡ k.regs) }
+    {
+        match self.entries.get(self.entries.len() - 1 - i as usize) {
+            Some(entry) => entry.regs,
+            None => unreachable!(),
+        }
+    }
+
+    /// The mode of the place number `i`, of which the oldest is number 0.
+    ///
+    /// `i` is below the number of kept places.
+    /// Source: this project's own.
+    pub fn mode_at(&self, i: u32) -> Mode
+        requires { i < length self.now }
+        ensures { IfSome (slice_get self.now i) (λ k. result ≡ k.mode) }
+    {
+        match self.entries.get(self.entries.len() - 1 - i as usize) {
+            Some(entry) => entry.mode,
+            None => unreachable!(),
+        }
+    }
+
     /// Keeps the place where the machine stands after so many steps: its core, registers, panel, arms and mode.
     ///
     /// Where 1,001 places were kept, the oldest is dropped; all others stay. Core is compared with that of the place before, and the words

@@ -1,47 +1,58 @@
--- One statement after another.
-use Rattle.std.proofs.Common.{◌∙◌, ◌++◌, ◌∷◌, [], ℕ, List, take, length, sym, ap, rules, arith}
-use Rattle.std.proofs.lemmas.Fn.{filter_same}
-use Rattle.std.proofs.lemmas.List.{length-take-le}
+-- The mark of the statement moves to the end of the log.
+use Rattle.std.proofs.Common.{◌≡◌, ◌∙◌, ◌-◌, ℕ, List, length, refl, sym, ap, arith}
+use Rattle.std.specs.Prelude.{slice_index_or, slice_set}
+use Rattle.std.specs.Vec.{with_item}
 use Rattle.sps_listing.specs.Listing.{placed_texts}
-use Rattle.console_debug.specs.Places.{statement_address}
-use Rattle.console_debug.proofs.Addresses.{few_addresses, next_address, no_address}
+use Rattle.console_debug.specs.declared.breaks.Breaks.{Breaks}
+use Rattle.console_debug.proofs.Tables.{inside_since, inside_times, read_times, counts_enough, cleared_on, tables_cleared}
 use Rattle.console_debug.proofs.breaks.Breaks.clear.Goals as goal
 
-pub loop-i-init : goal.loop-i-init
-loop-i-init c = record {
-  statements = filter_same _ _ _ (λ x b f' k. search rules) _ _ c.retain.ensures.filtered;
-  len = sym c.len-i-end.ensures;
-  room = omega (arith, c.retain.ensures.bound, c.clear.ensures.capacity, c.requires.1);
-  addresses = c.clear.ensures.items;
-  same_statements = c.retain.ensures.capacity;
-  same_addresses = c.clear.ensures.capacity;
-}
+pub index-requires : goal.index-requires
+index-requires c =
+    let inside = inside_times (placed_texts c.args.assembled.now) c.args.self.now c.args.self.now c.args.statement c.in-Some.address c.requires.tables (sym c.address_of.ensures ∙ c.in-Some.is) in
+    omega (arith, inside, c.args.self.now.times.ok.0)
 
-pub push_reserved-requires : goal.push_reserved-requires
-push_reserved-requires c =
-    let before = take c.loop-i.i c.loop-i.self.statements.items in
-    let few = few_addresses (statement_address (placed_texts c.args.assembled.now)) before in
-    let short = length-take-le c.loop-i.i c.loop-i.self.statements.items (omega (arith, c.loop-i-test.true, c.loop-i.invariant.len)) in
-    omega (arith, few, short, ap length c.loop-i.invariant.addresses)
+pub lower-requires : goal.lower-requires
+lower-requires c = counts_enough (placed_texts c.args.assembled.now) c.args.self.now c.args.self.now c.args.statement c.in-Some.address c.requires.tables (sym c.address_of.ensures ∙ c.in-Some.is) c.index.result.now c.index.ensures
 
-pub loop-i-preserved-in_default : goal.loop-i-preserved-in_default
-loop-i-preserved-in_default c = record {
-  statements = c.loop-i.invariant.statements;
-  len = c.loop-i.invariant.len;
-  room = c.loop-i.invariant.room;
-  addresses = c.loop-i.invariant.addresses
-      ∙ sym (no_address (statement_address (placed_texts c.args.assembled.now)) c.loop-i.self.statements.items c.loop-i.i c.index.result.now (omega (arith, c.loop-i-test.true, c.loop-i.invariant.len)) c.index.ensures (sym c.address_of.ensures ∙ c.in_default.is));
-  same_statements = c.loop-i.invariant.same_statements;
-  same_addresses = c.loop-i.invariant.same_addresses;
-}
+pub index_mut-requires : goal.index_mut-requires
+index_mut-requires c =
+    let inside = inside_since (placed_texts c.args.assembled.now) c.args.self.now c.args.self.now c.args.statement c.in-Some.address c.requires.tables (sym c.address_of.ensures ∙ c.in-Some.is) in
+    omega (arith, inside, c.args.self.now.since.ok.0)
 
-pub loop-i-preserved : goal.loop-i-preserved
-loop-i-preserved c = record {
-  statements = c.loop-i.invariant.statements;
-  len = c.loop-i.invariant.len;
-  room = omega (arith, c.loop-i.invariant.room, c.push_reserved.ensures.capacity);
-  addresses = c.push_reserved.ensures.items ∙ ap (λ (xs : List ℕ). xs ++ c.in-Some.address ∷ []) c.loop-i.invariant.addresses
-      ∙ sym (next_address (statement_address (placed_texts c.args.assembled.now)) c.loop-i.self.statements.items c.loop-i.i c.index.result.now c.in-Some.address (omega (arith, c.loop-i-test.true, c.loop-i.invariant.len)) c.index.ensures (sym c.address_of.ensures ∙ c.in-Some.is));
-  same_statements = c.loop-i.invariant.same_statements;
-  same_addresses = c.push_reserved.ensures.capacity ∙ c.loop-i.invariant.same_addresses;
-}
+pub index_mut-requires-2 : goal.index_mut-requires-2
+index_mut-requires-2 c =
+    let inside = inside_times (placed_texts c.args.assembled.now) c.args.self.now c.args.self.now c.args.statement c.in-Some.address c.requires.tables (sym c.address_of.ensures ∙ c.in-Some.is) in
+    omega (arith, inside, c.args.self.now.times.ok.0)
+
+pub returns-clause-set : goal.returns-clause-set
+returns-clause-set c =
+    let new : Breaks = record {
+      statements = c.args.self.now.statements;
+      log = c.args.self.now.log;
+      since = with_item c.args.self.now.since c.args.statement c.len.result;
+      times = with_item c.args.self.now.times c.args.statement 0;
+      counts = c.lower.new.table;
+      numbers = c.args.self.now.numbers;
+    } in
+    let marked : slice_set c.args.self.now.since.items c.args.statement c.len.result ≡ slice_set c.args.self.now.since.items c.args.statement (length c.args.self.now.log.items) =
+    ap (slice_set c.args.self.now.since.items c.args.statement) (c.len.ensures ∙ c.args.self.now.log.ok.0) in
+    cleared_on (placed_texts c.args.assembled.now) c.args.self.now new c.args.statement c.in-Some.address c.requires.tables (sym c.address_of.ensures ∙ c.in-Some.is) refl marked
+
+pub returns-clause-tables : goal.returns-clause-tables
+returns-clause-tables c =
+    let new : Breaks = record {
+      statements = c.args.self.now.statements;
+      log = c.args.self.now.log;
+      since = with_item c.args.self.now.since c.args.statement c.len.result;
+      times = with_item c.args.self.now.times c.args.statement 0;
+      counts = c.lower.new.table;
+      numbers = c.args.self.now.numbers;
+    } in
+    let marked : slice_set c.args.self.now.since.items c.args.statement c.len.result ≡ slice_set c.args.self.now.since.items c.args.statement (length c.args.self.now.log.items) =
+    ap (slice_set c.args.self.now.since.items c.args.statement) (c.len.ensures ∙ c.args.self.now.log.ok.0) in
+    let read = read_times (placed_texts c.args.assembled.now) c.args.self.now c.args.self.now c.args.statement c.in-Some.address c.requires.tables (sym c.address_of.ensures ∙ c.in-Some.is) c.index.result.now c.index.ensures in
+    tables_cleared (placed_texts c.args.assembled.now) c.args.self.now new c.args.statement c.in-Some.address c.requires.tables (sym c.address_of.ensures ∙ c.in-Some.is) refl marked
+    refl
+    (c.lower.ensures ∙ ap (λ k. slice_set c.args.self.now.counts.items c.in-Some.address (slice_index_or c.args.self.now.counts.items c.in-Some.address 0 - k)) read)
+    refl

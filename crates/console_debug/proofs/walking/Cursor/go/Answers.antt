@@ -3,6 +3,7 @@ use Rattle.std.proofs.Common.{◌∙◌, ℕ, List, subst}
 use Rattle.outside_io.specs.declared.host.Unit.TheVariants as units
 use Rattle.outside_io.specs.Whole.{Sends}
 use Rattle.sps_listing.specs.Listing.{placed_texts}
+use Rattle.console_debug.specs.Breakpoints.{set_now}
 use Rattle.console_debug.specs.CursorStates.{cursor_state_of}
 use Rattle.console_debug.proofs.PlaceLines.{stopped, ran_out, broke_off}
 use Rattle.console_debug.proofs.walking.Cursor.go.Goals as goal
@@ -16,8 +17,8 @@ returns-in-There-clause-carries g c =
     let mid = cursor_state_of m c.to_stop.new.self between in
     let after = g.H.Host.seen c.write_all.new.host in
     let how = c.write_all.result in
-    stopped m c.args.self.now.run.limit placed c.args.breaks.now.statements.items old mid after how (c.in-There.ensures.stops placed c.requires.addresses)
-    (subst (λ (text : List ℕ). Sends between after units.Report text how) (c.as_bytes.ensures.value ∙ c.deref.ensures.0 ∙ c.break_line-line.ensures) c.write_all.ensures)
+    stopped m c.args.self.now.run.limit placed (set_now c.args.breaks.now) old mid after how c.in-There.ensures.stops
+    (subst (λ (text : List ℕ). Sends between after units.Report text how) (c.as_bytes.ensures.value ∙ c.deref.ensures.0 ∙ c.break_line-line.ensures placed c.number_at.ensures) c.write_all.ensures)
 
 pub returns-in-End-clause-carries : goal.returns-in-End-clause-carries
 returns-in-End-clause-carries g c =
@@ -28,7 +29,7 @@ returns-in-End-clause-carries g c =
     let mid = cursor_state_of m c.to_stop.new.self between in
     let after = g.H.Host.seen c.write_all-in-End.new.host in
     let how = c.write_all-in-End.result in
-    ran_out m c.args.self.now.run.limit placed c.args.breaks.now.statements.items old mid c.in-End.how after how (c.in-End.ensures.stops placed c.requires.addresses)
+    ran_out m c.args.self.now.run.limit placed (set_now c.args.breaks.now) old mid c.in-End.how after how c.in-End.ensures.stops
     (subst (λ (text : List ℕ). Sends between after units.Report text how) (c.as_bytes-in-End.ensures.value ∙ c.deref-in-End.ensures.0 ∙ c.ending_line.ensures) c.write_all-in-End.ensures)
 
 pub returns-in-Fault-clause-carries : goal.returns-in-Fault-clause-carries
@@ -37,4 +38,4 @@ returns-in-Fault-clause-carries g c =
     let placed = placed_texts c.args.assembled.now in
     let old = cursor_state_of m c.args.self.now (g.H.Host.seen c.args.host.now) in
     let mid = cursor_state_of m c.to_stop.new.self (g.H.Host.seen c.to_stop.new.host) in
-    broke_off m c.args.self.now.run.limit placed c.args.breaks.now.statements.items old mid (c.in-Fault.ensures.stops placed c.requires.addresses)
+    broke_off m c.args.self.now.run.limit placed (set_now c.args.breaks.now) old mid c.in-Fault.ensures.stops
