@@ -1,6 +1,6 @@
 pub mod Slots
 pub mod Maps
-pub mod Settings
+pub mod SettingWords
 pub mod Tables
 pub mod Found
 pub mod Rows

@@ -20,10 +20,7 @@ abbrev pub meaning_of : Plain → reading.Said
 meaning_of plain = record {
   command = plain.command;
   names = names_in plain.names;
-  limit = plain.limit;
-  statements = plain.statements;
-  number = plain.number;
-  form = plain.form;
+  settings = plain.settings;
   core = plain.core;
 }
 

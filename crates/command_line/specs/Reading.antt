@@ -6,6 +6,7 @@ use Rattle.sps_ops.specs.Rows.{Row, row, value_by_name}
 use Rattle.command_line.specs.Numbers.{fewest_made, last_source, most_made}
 use Rattle.command_line.specs.declared.options.Slot.{Slot}
 use Rattle.command_line.specs.declared.options.Slot.TheVariants.{File, Limit, Statements, Number, Form, Core}
+use Rattle.command_line.specs.declared.reading.Settings.{Settings}
 use Rattle.command_line.specs.declared.words.Command.{Command}
 use Rattle.deck_punch.specs.declared.form.DeckForm.{DeckForm}
 use Rattle.deck_punch.specs.declared.form.DeckForm.TheVariants.{SelfLoading, Dense}
@@ -23,15 +24,11 @@ Names = unit.Unit → Option (List ℕ)
 abbrev pub no_names : Names
 no_names u = None
 
--- what plain words say: a command, the names of the files, the limit of steps, the two numbers of a source that is made,
--- the form of an object deck, and the size of core
+-- what plain words say: a command, the names of the files, the settings of the job, and the size of core
 pub record Said : Type 0 where
   pub command : Command
   pub names : Names
-  pub limit : ℕ
-  pub statements : ℕ
-  pub number : ℕ
-  pub form : DeckForm
+  pub settings : Settings
   pub core : CoreSize
 
 -- how many steps a run makes at most where the words give no limit
@@ -71,20 +68,28 @@ core_in values = read_or (value_by_name core_sizes) OneModule (values Core)
 abbrev pub with : {A B : Type 0} → Option A → (A → Option B) → Option B
 with value next = option_and_then next value
 
--- what a command with these values says, where each of them can be read
-abbrev pub reading : Command → Values → Option Said
-reading command values =
+-- the settings of a job, where each of them can be read
+abbrev pub settings_in : Values → Option Settings
+settings_in values =
     with (limit_in values) (λ limit.
     with (statements_in values) (λ statements.
     with (number_read values) (λ number.
     with (form_in values) (λ form.
-    with (core_in values) (λ core.
     Some (record {
-      command = command;
-      names = λ u. values (File u);
       limit = limit;
       statements = statements;
       number = number;
       form = form;
+    })))))
+
+-- what a command with these values says, where each of them can be read
+abbrev pub reading : Command → Values → Option Said
+reading command values =
+    with (settings_in values) (λ settings.
+    with (core_in values) (λ core.
+    Some (record {
+      command = command;
+      names = λ u. values (File u);
+      settings = settings;
       core = core;
-    }))))))
+    })))

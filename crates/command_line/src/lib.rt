@@ -20,4 +20,5 @@ mod words;
 
 pub use given::Plain;
 pub use names::Names;
+pub use reading::Settings;
 pub use words::{Command, CoreSize, STANDARD_LIMIT, named_file, plain_words};

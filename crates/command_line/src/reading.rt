@@ -3,8 +3,8 @@ ghost use Rattle.std.specs.Prelude.{◌≡◌, ◌≤◌, IfSome, option_copied}
 ghost use Rattle.line_words.specs.Words.{number_in};
 ghost use Rattle.sps_ops.specs.Rows.{value_by_name};
 ghost use Rattle.command_line.specs.Given.{values_in, MeansJust};
-ghost use Rattle.command_line.specs.Numbers.{IsWithin};
-ghost use Rattle.command_line.specs.Reading.{core_in, core_sizes, deck_forms, form_in, read_or, reading};
+ghost use Rattle.command_line.specs.Numbers.{AreNumbers, IsWithin};
+ghost use Rattle.command_line.specs.Reading.{core_in, core_sizes, deck_forms, form_in, read_or, reading, settings_in};
 
 use crate::given::Plain;
 use crate::names::Names;
@@ -14,6 +14,21 @@ use crate::words::{Command, CoreSize, STANDARD_LIMIT};
 use deck_punch::DeckForm;
 use line_words::{LARGEST_NUMBER, number_in};
 use sps_ops::find;
+
+/// What the words set for a job, by the options that have a value of their own: all but the names of files, and the size of core.
+///
+/// Source: this project's own.
+#[derive(Clone, Copy)]
+pub struct Settings {
+    /// The most steps that a run makes, 0 to 999,999,999,999,999; 1,000,000 where the words give none.
+    pub limit: u64,
+    /// How many statements a source that is made has, 8 to 1,600; 8 where the words give none.
+    pub statements: u32,
+    /// The number by which a source is made, 0 to 999,999; 0 where the words give none.
+    pub number: u32,
+    /// The form of the object deck; self-loading where the words give none.
+    pub form: DeckForm,
+}
 
 // The forms of an object deck.
 const FORMS: [(&str, DeckForm); 2] = [("self", DeckForm::SelfLoading), ("dense", DeckForm::Dense)];
@@ -64,9 +79,10 @@ fn core_of(values: &Values<'_>) -> Option<CoreSize>
     }
 }
 
-// What a command with these values says, where each of them can be read.
-pub(crate) fn read<'a>(command: Command, values: &Values<'a>) -> Option<Plain<'a>>
-    ensures { MeansJust (reading command (values_in values.now)) result }
+// The settings of a job, where each of them can be read.
+fn settings_of(values: &Values<'_>) -> Option<Settings>
+    ensures is { result ≡ settings_in (values_in values.now) }
+    ensures fits { IfSome result (λ settings. AreNumbers settings.statements settings.number) }
 {
     let limit = number_or(0, LARGEST_NUMBER, STANDARD_LIMIT, values.get(Slot::Limit))?;
     let statements = number_or(
@@ -77,14 +93,24 @@ pub(crate) fn read<'a>(command: Command, values: &Values<'a>) -> Option<Plain<'a
     )?;
     let number = number_or(0, LAST_SOURCE, 0, values.get(Slot::Number))?;
     let form = form_of(values)?;
-    let core = core_of(values)?;
-    Some(Plain {
-        command,
-        names: Names { values: *values },
+    Some(Settings {
         limit,
         statements: statements as u32,
         number: number as u32,
         form,
+    })
+}
+
+// What a command with these values says, where each of them can be read.
+pub(crate) fn read<'a>(command: Command, values: &Values<'a>) -> Option<Plain<'a>>
+    ensures { MeansJust (reading command (values_in values.now)) result }
+{
+    let settings = settings_of(values)?;
+    let core = core_of(values)?;
+    Some(Plain {
+        command,
+        names: Names { values: *values },
+        settings,
         core,
     })
 }

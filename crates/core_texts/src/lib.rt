@@ -3,6 +3,8 @@
 //! A character is that of the digit on cards: `0` to `9`, `|` for the record mark, `@` for the numerical blank, `}` for the group mark, and
 //! `]`, `J` to `R`, `!`, `*` and `"` for these with a flag. A test that names another character or a place outside core, or binds a file that
 //! cannot be bound, has an error, and so fails.
+//!
+//! Source: this project's own.
 #![tactic(auto)]
 
 ghost use Rattle.std.specs.Prelude.{IfOk};
@@ -13,8 +15,6 @@ use digit_core::{Core, Digit};
 use outside_io::Bound;
 
 /// What is wrong with a test that writes or shows core.
-///
-/// Source: this project's own.
 #[derive(Debug, Drop)]
 pub enum TextFault {
     /// The byte is no character of a digit.
@@ -28,7 +28,6 @@ pub enum TextFault {
 /// The digit of a character.
 ///
 /// The error is a byte that is no character of a digit.
-/// Source: this project's own.
 pub fn digit_of_char(c: u8) -> Result<Digit, TextFault>
     ensures { IfOk result IsGood }
 {
@@ -38,7 +37,6 @@ pub fn digit_of_char(c: u8) -> Result<Digit, TextFault>
 /// Stores a text from `a` upwards.
 ///
 /// The error is a byte that is no character of a digit, or a place past the end of core; what stands before it is stored.
-/// Source: this project's own.
 pub fn write<const M: u32>(core: &mut Core<M>, a: u32, text: &[u8]) -> Result<(), TextFault> {
     let size = core.size();
     let mut at = a;
@@ -55,7 +53,6 @@ pub fn write<const M: u32>(core: &mut Core<M>, a: u32, text: &[u8]) -> Result<()
 /// Whether a text stands from `a` upwards.
 ///
 /// The error is a byte that is no character of a digit, or a place past the end of core.
-/// Source: this project's own.
 pub fn shows<const M: u32>(core: &Core<M>, a: u32, text: &[u8]) -> Result<bool, TextFault> {
     let size = core.size();
     let mut at = a;
@@ -74,7 +71,6 @@ pub fn shows<const M: u32>(core: &Core<M>, a: u32, text: &[u8]) -> Result<bool, 
 /// Whether the digit of a character stands at each place from `from` up to `to`, which is not one of them.
 ///
 /// The error is a byte that is no character of a digit, or a place past the end of core.
-/// Source: this project's own.
 pub fn all<const M: u32>(core: &Core<M>, from: u32, to: u32, c: u8) -> Result<bool, TextFault> {
     let size = core.size();
     let want = digit_of_char(c)?;
@@ -92,7 +88,6 @@ pub fn all<const M: u32>(core: &Core<M>, from: u32, to: u32, c: u8) -> Result<bo
 /// Turns a bit of the cell at `a` round, which makes its parity even.
 ///
 /// The error is a place past the end of core.
-/// Source: this project's own.
 pub fn damage<const M: u32>(core: &mut Core<M>, a: u32) -> Result<(), TextFault> {
     if a >= core.size() {
         return Err(TextFault::Address(a));
@@ -104,7 +99,6 @@ pub fn damage<const M: u32>(core: &mut Core<M>, a: u32) -> Result<(), TextFault>
 /// Goes on where a unit was bound.
 ///
 /// The error is a unit that could not be bound.
-/// Source: this project's own.
 pub fn bound(answer: Bound) -> Result<(), TextFault> {
     match answer {
         Bound::Yes => Ok(()),

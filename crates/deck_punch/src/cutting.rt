@@ -1,4 +1,5 @@
 // An image, cut into segments.
+// Source: this project's own.
 ghost use Rattle.std.specs.Prelude.{◌≡◌, ◌+◌, ◌++◌, ◌≤◌, length, map, IfOk, OnOk};
 ghost use Rattle.digit_core.specs.declared.TheConstants.{MOST_POSITIONS};
 ghost use Rattle.sps_pass_two.specs.Types.{run_of};
@@ -18,7 +19,6 @@ use std::alloc::{AllocError, Global};
 ///
 /// The first segment of a piece begins with it, and each other where the one before ended. A segment ends behind a flagged digit that is
 /// not its first, after 32 digits, or with the piece, whichever comes first. The error is want of memory.
-/// Source: this project's own.
 pub fn cut(alloc: Global, image: &Image) -> Result<Vec<Segment>, AllocError>
     ensures { IfOk result (λ segments. map segment_run segments.items ≡ cut image.now.pieces) }
 {
@@ -32,7 +32,6 @@ pub fn cut(alloc: Global, image: &Image) -> Result<Vec<Segment>, AllocError>
 /// The first segment of a piece begins with it, and each other where the one before ended. A segment ends behind its first inner flag, or,
 /// where its first digit has a flag, behind its second; after 69 digits; or with the piece, whichever comes first. An inner flag is one on a
 /// digit that is not the segment's first. The error is want of memory.
-/// Source: this project's own.
 pub fn cut_dense(alloc: Global, image: &Image) -> Result<Vec<DenseSegment>, AllocError>
     ensures { IfOk result (λ segments. map segment_run segments.items ≡ cut_dense image.now.pieces) }
 {
@@ -130,7 +129,6 @@ fn taken(flags: usize, room: usize, digits: &[Digit]) -> usize
 /// The segments of a piece cover it: one after the other they are its digits, from its address on, and each ends where [`cut`] says.
 ///
 /// It does nothing; its clause is the law.
-/// Source: this project's own.
 pub fn cut_law()
     ensures { CutLaw }
 {}
@@ -139,7 +137,6 @@ pub fn cut_law()
 /// says.
 ///
 /// It does nothing; its clause is the law.
-/// Source: this project's own.
 pub fn dense_law()
     ensures { DenseLaw }
 {}

@@ -1,4 +1,5 @@
 // The cards of the dense object deck.
+// Source: this project's own.
 ghost use Rattle.std.specs.Prelude.{◌≡◌, ℕ, ◌+◌, ◌<◌, ◌≤◌, [], ◌∷◌, ◌++◌, length, map, position, All};
 ghost use Rattle.digit_core.specs.Cell.{IsGood};
 ghost use Rattle.card_code.specs.Characters.{object_char};
@@ -37,7 +38,6 @@ const FLAGGED_ZERO: Digit = Digit {
 /// digit alone has one, and perhaps the last; the digit in column 11 puts right the one whose flag is not the image's.
 ///
 /// The segment's addresses are 00000 to 99999, and each of its digits is one that a cell can hold.
-/// Source: this project's own.
 pub fn dense_card_of(segment: &DenseSegment) -> Card
     requires below { segment.now.from + length segment.now.digits.items ≤ addresses }
     requires good { All IsGood segment.now.digits.items }
@@ -145,8 +145,6 @@ fn punch(columns: &mut Columns, digits: &[Digit])
 }
 
 /// The loader card, the first card of a dense deck: it stays in 00000 to 00079 and loads the dense cards, one after another.
-///
-/// Source: this project's own.
 pub fn loader_card() -> Card
     ensures { result.0 ≡ loader_card }
 {
@@ -154,8 +152,6 @@ pub fn loader_card() -> Card
 }
 
 /// The bridge card, behind the last dense card: it leads from the loader card to the self-loading cards of the tables.
-///
-/// Source: this project's own.
 pub fn bridge_card() -> Card
     ensures { result.0 ≡ bridge_card }
 {

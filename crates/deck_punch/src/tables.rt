@@ -1,4 +1,5 @@
 // The tables as a deck loads them, and what else it loads.
+// Source: this project's own.
 ghost use Rattle.std.specs.Prelude.{◌≡◌, ◌+◌, ◌≤◌, ◌<◌, ◌++◌, ◌∷◌, [], length, map, IfOk, OnOk};
 ghost use Rattle.digit_core.specs.declared.TheConstants.{MOST_POSITIONS};
 ghost use Rattle.sps_pass_two.specs.Types.{run_of};
@@ -19,7 +20,6 @@ const TABLES_END: u32 = 400;
 ///
 /// The table piece is 00100 to 00399, with the image's digit where the address is declared and the standard tables' digit elsewhere. The
 /// other pieces are the image's runs from 00400 on; what it declares below 00100 is left out. The error is want of memory.
-/// Source: this project's own.
 pub fn with_tables(alloc: Global, image: &Image) -> Result<Image, AllocError>
     ensures { IfOk result (λ with. with.pieces ≡ with_tables image.now.pieces) }
 {
@@ -34,7 +34,6 @@ pub fn with_tables(alloc: Global, image: &Image) -> Result<Image, AllocError>
 /// The table piece alone: 00100 to 00399, with the image's digit where the address is declared and the standard tables' digit elsewhere.
 ///
 /// The error is want of memory.
-/// Source: this project's own.
 pub fn table_piece(alloc: Global, image: &Image) -> Result<Image, AllocError>
     ensures { IfOk result (λ table. table.pieces ≡ table_piece image.now.pieces ∷ []) }
 {
@@ -48,7 +47,6 @@ pub fn table_piece(alloc: Global, image: &Image) -> Result<Image, AllocError>
 /// The other pieces alone: what an image declares from 00400 on.
 ///
 /// The error is want of memory.
-/// Source: this project's own.
 pub fn other_pieces(alloc: Global, image: &Image) -> Result<Image, AllocError>
     ensures { IfOk result (λ others. others.pieces ≡ other_pieces image.now.pieces) }
 {

@@ -216,6 +216,10 @@ none_in gs image h {b} are need is =
     let n : is_needed image h ≡ false = ap (λ (g : List Run). is_needed g h) (sym are) ∙ sym need ∙ is in
     sym (sector_of image h false n)
 
+-- what was found needed by the pieces is needed by their image
+pub needed_all : (gs image : List Run) (h : ℕ) {b : Bool} → gs ≡ image → b ≡ is_needed gs h → b ≡ is_needed image h
+needed_all gs image h are need = need ∙ ap (λ (g : List Run). is_needed g h) are
+
 -- and what a sector's text tells of it
 abbrev text_or : Option (List ℕ) → List ℕ
 text_or (Some t) = t

@@ -1,4 +1,5 @@
 // The bootstrap deck.
+// Source: this project's own.
 ghost use Rattle.std.specs.Prelude.{◌≡◌, ◌+◌, ◌<◌, ◌≤◌, ◌++◌, [], ◌∷◌, length, map, IfOk, OnOk};
 ghost use Rattle.digit_core.specs.{unflagged_digit};
 ghost use Rattle.card_code.specs.Characters.{object_char};
@@ -44,7 +45,6 @@ pub(crate) struct Stretch {
 /// Load key. After the deck's steps, four for each card but the last and one for that, the machine runs at the program's start. In core
 /// stand the hundreds that the program needs, with its digits over the standard tables over unflagged zeros, and the last card in 00000
 /// to 00079; every other cell is as it was. Outside, each card of the deck is taken, and nothing else is done. The error is want of memory.
-/// Source: this project's own.
 pub fn bootstrap(alloc: Global, assembled: &Assembled) -> Result<Vec<Card>, AllocError>
     ensures is { IfOk result (λ cards. AreBootstrapOf assembled.now cards.items) }
     ensures most { IfOk result (λ cards. length cards.items ≤ HUNDREDS + 1) }
@@ -74,7 +74,6 @@ pub fn bootstrap(alloc: Global, assembled: &Assembled) -> Result<Vec<Card>, Allo
 /// cylinder, and none could be longer.
 ///
 /// The call does nothing; the law is its contract.
-/// Source: this project's own.
 pub fn stretch_law()
     ensures { StretchLaw }
 {}

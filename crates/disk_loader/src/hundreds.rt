@@ -40,7 +40,13 @@ pub(crate) fn is_needed(assembled: &Assembled, h: u32) -> bool
     requires { h < HUNDREDS }
     ensures { result ≡ is_needed assembled.now.image.pieces h }
 {
-    sector_text(assembled, h).is_some()
+    let from = 100 * h;
+    let mut needed = holds_tables(h);
+    for piece in assembled.image.pieces.as_slice() {
+        let reached = reaches(piece, from);
+        needed = reached || needed;
+    }
+    needed
 }
 
 // Whether the standard tables stand in hundred `h`.
@@ -75,6 +81,18 @@ fn digit_beneath(a: u32) -> Digit
             value: 0,
         }
     }
+}
+
+// Whether a piece has an address in the hundred that begins at `from`.
+fn reaches(piece: &Piece, from: u32) -> bool
+    requires from { from < MOST_POSITIONS }
+    requires below { IsBelow MOST_POSITIONS (run_of piece.now) }
+    ensures { result ≡ reaches (run_of piece.now) from }
+{
+    let digits = piece.digits.as_slice();
+    let first = piece.from.max(from);
+    let past = (piece.from + digits.len() as u32).min(from + 100);
+    first < past
 }
 
 // Lays the characters of a piece over those of the hundred that begins at `from`. Whether the piece has an address there.

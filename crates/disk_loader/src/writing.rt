@@ -1,4 +1,5 @@
 // Writing the sectors of a program.
+// Source: this project's own.
 ghost use Rattle.std.specs.Prelude.{◌≡◌, length};
 ghost use Rattle.disk_loader.specs.Writes.{WritesSectors, image_sectors};
 
@@ -7,8 +8,6 @@ use outside_io::{Drive, Host, Sent};
 use sps_pass_two::Assembled;
 
 /// How many sectors a program needs: its hundreds, those of the standard tables among them.
-///
-/// Source: this project's own.
 pub fn sector_count(assembled: &Assembled) -> u32
     ensures { result ≡ length (image_sectors assembled.now.image.pieces) }
 {
@@ -25,7 +24,6 @@ pub fn sector_count(assembled: &Assembled) -> u32
 ///
 /// `Done`: they are written, and all other sectors are as before. `Failed` only where the host's count of faults rose: some first of them
 /// were written.
-/// Source: this project's own.
 pub fn write_sectors<H: Host>(assembled: &Assembled, host: &mut H) -> Sent
     ensures { WritesSectors (image_sectors assembled.now.image.pieces) (H.seen host.old) (H.seen host.new) result }
 {

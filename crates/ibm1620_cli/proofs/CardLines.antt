@@ -13,7 +13,7 @@ use Rattle.disk_loader.specs.Bootstrap.{bootstrap}
 use Rattle.card_columns.proofs.CardTexts.{is_plain, are_plain, and_first, and_second, not_true, AreCardTexts}
 use Rattle.loader_cards.proofs.CardTexts.{deck_texts}
 use Rattle.disk_loader.proofs.BootTexts.{boot_texts}
-use Rattle.ibm1620_cli.specs.Source.{deck_text}
+use Rattle.deck_punch.specs.DeckText.{deck_text}
 
 -- a plain text and LF are a line
 lines_front : (text rest : List ℕ) → are_plain text ≡ true → lines_of (text ++ 10 ∷ rest) ≡ text ∷ lines_of rest

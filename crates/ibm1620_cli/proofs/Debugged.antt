@@ -33,7 +33,7 @@ use Rattle.console_debug.specs.CommandLists.{command_list}
 use Rattle.console_debug.specs.Session.{Course as SessionCourse, Act, place_of_session, act_events, session_events}
 use Rattle.console_debug.proofs.Acts.{events_append}
 use Rattle.console_debug.specs.Debugs.{task, without_count, StandsBy, StandsWithin, EndsSession, BreaksSession}
-use Rattle.deck_punch.specs.declared.form.DeckForm.{DeckForm}
+use Rattle.command_line.specs.declared.reading.Settings.{Settings}
 use Rattle.ibm1620_cli.specs.declared.status.Status.{Status}
 use Rattle.ibm1620_cli.specs.declared.answer.Answer.{Answer}
 use Rattle.ibm1620_cli.specs.declared.status.Status.TheVariants.{HostFault, OutOfMemory, SessionEnded}
@@ -278,62 +278,62 @@ module _ (before : List Event) (limit : ℕ) (placed : List PlacedText) (p : Pro
   promise_holds new answer (ends_session pressed mid key left left_script breaks out reports shows) = for_end pressed key left left_script breaks mid out answer shows new reports
 
 -- Behind the texts of a source.
-module _ (m : ℕ) (form : DeckForm) (limit : ℕ) (lines : List ScriptLine) (commands : List DebugCommand) (source : List ℕ) where
+module _ (m : ℕ) (settings : Settings) (lines : List ScriptLine) (commands : List DebugCommand) (source : List ℕ) where
   abbrev made : List Event
-  made = made_events (made_of m form source)
+  made = made_events (made_of m settings.form source)
 
   abbrev given : Debugging
-  given = debugging_of m limit lines commands source
+  given = debugging_of m settings lines commands source
 
   abbrev deck : List (List ℕ)
-  deck = deck_of (program_of m form source)
+  deck = deck_of (program_of m settings.form source)
 
   abbrev keyed_in : World → Feed → LoadedMachine
-  keyed_in w feed = keyed_over (program_of m form source) w lines feed
+  keyed_in w feed = keyed_over (program_of m settings.form source) w lines feed
 
   -- the session was held
   pub promise_debug_behind : (start mid new : Seen) (answer : Answer) → Goes start mid (after_events start.world made)
-      → KeepsPromise (session_promise (Some deck) made given (keyed_in mid.world) (feed_at mid.world)) start new answer → KeepsPromise (debugged_promise m form limit lines commands source start.world) start new answer
-  promise_debug_behind start mid new answer goes kept = subst (λ (w : World). KeepsPromise (session_promise (Some deck) made given (keyed_in w) (feed_at w)) start new answer) (goes.world ∙ made_world (made_of m form source) start.world) kept
+      → KeepsPromise (session_promise (Some deck) made given (keyed_in mid.world) (feed_at mid.world)) start new answer → KeepsPromise (debugged_promise m settings lines commands source start.world) start new answer
+  promise_debug_behind start mid new answer goes kept = subst (λ (w : World). KeepsPromise (session_promise (Some deck) made given (keyed_in w) (feed_at w)) start new answer) (goes.world ∙ made_world (made_of m settings.form source) start.world) kept
 
   job_part : (o : Option Feed) (at : Feed → LoadedMachine) (start new : Seen) → Unasked start.world new.world → DidPart made start.world new.world → IfSome (option_map (λ feed. session_job (Some deck) made given (at feed)) o) (λ j. StopsAt j None start.world new.world)
   job_part None at start new still p = tt
   job_part (Some feed) at start new still p =
       let first : RunPlace = (at feed).first in
       let events : List Event = session_events (course_from given first) (session_from given first).acts in
-      stops_unasked (session_job (Some deck) made given (at feed)) made _ start.world new.world (append_assoc made ((at feed).taken ++ events) _) (made_take (made_of m form source)) still p
+      stops_unasked (session_job (Some deck) made given (at feed)) made _ start.world new.world (append_assoc made ((at feed).taken ++ events) _) (made_take (made_of m settings.form source)) still p
 
   -- the texts were not written, or not all
-  pub promise_debug_unwritten : (start new : Seen) (s : Status) → ((s ≡ OutOfMemory) × (new ≡ start)) ⊎ ((s ≡ HostFault) × StopsWithin made start new) → KeepsPromise (debugged_promise m form limit lines commands source start.world) start new (answer_of s)
-  promise_debug_unwritten start new s (inl lacks) = rw (lacks.0, lacks.1) (promise_memory (debugged_promise m form limit lines commands source start.world) start start (did_none start.world) (λ u read. refl) refl refl)
+  pub promise_debug_unwritten : (start new : Seen) (s : Status) → ((s ≡ OutOfMemory) × (new ≡ start)) ⊎ ((s ≡ HostFault) × StopsWithin made start new) → KeepsPromise (debugged_promise m settings lines commands source start.world) start new (answer_of s)
+  promise_debug_unwritten start new s (inl lacks) = rw (lacks.0, lacks.1) (promise_memory (debugged_promise m settings lines commands source start.world) start start (did_none start.world) (λ u read. refl) refl refl)
   promise_debug_unwritten start new s (inr stops) =
       let fails = stops_fails made start new stops.1 in
       inr (inl (record { status = stops.0; refusal = refl; statement = refl; rose = fails.rose; part = job_part (feed_at start.world) (keyed_in start.world) start new (stops_asked made start new stops.1) fails.part }))
 
   -- the texts that may be there where no memory was found are those of a run
-  same_made : (o : Option Refusal) (w : World) (P : List Event → Type 0) → IfSome (promise_by (debugged_promise m form limit lines commands) source o w).made.texts P → IfSome (promise_by (turned_promise m form limit lines) source o w).made.texts P
+  same_made : (o : Option Refusal) (w : World) (P : List Event → Type 0) → IfSome (promise_by (debugged_promise m settings lines commands) source o w).made.texts P → IfSome (promise_by (turned_promise m settings lines) source o w).made.texts P
   same_made None w P here = here
   same_made (Some r) w P here = here
 
-  pub debugged_follows : FollowsSource m (events_at m form) (debugged_promise m form limit lines commands) source
+  pub debugged_follows : FollowsSource m (events_at m settings.form) (debugged_promise m settings lines commands) source
   debugged_follows = record {
     plain = λ w. refl;
     unbound = λ w. refl;
     apart = λ gone t w. refl;
-    texts = λ o w P good told here. (turned_follows m form limit lines source).texts o w P good told (same_made o w P here);
+    texts = λ o w P good told here. (turned_follows m settings lines source).texts o w P good told (same_made o w P here);
   }
 
 -- What is done behind a reading is so whatever was taken before, and whatever it was.
 
-module _ (m : ℕ) (form : DeckForm) (limit : ℕ) (lines : List ScriptLine) where
+module _ (m : ℕ) (settings : Settings) (lines : List ScriptLine) where
   pub commands_apart : (commands : List DebugCommand) (gone : Readings) (text : List ℕ) (t : Texts) (w : World)
-      → commands_promise m form limit lines commands (world_with_texts t (world_after_take units.Commands gone w)) ≡ commands_promise m form limit lines commands (world_with_texts (record t { commands = text }) w)
+      → commands_promise m settings lines commands (world_with_texts t (world_after_take units.Commands gone w)) ≡ commands_promise m settings lines commands (world_with_texts (record t { commands = text }) w)
   commands_apart commands gone text t w =
-      source_apart m (events_at m form) (running_promise m (debugged_promise m form limit lines commands)) (world_with_texts t (world_after_take units.Commands gone w)) (world_with_texts (record t { commands = text }) w) refl refl (λ source. refl)
+      source_apart m (events_at m settings.form) (running_promise m (debugged_promise m settings lines commands)) (world_with_texts t (world_after_take units.Commands gone w)) (world_with_texts (record t { commands = text }) w) refl refl (λ source. refl)
 
-  pub script_apart : (gone : Readings) (script : List ℕ) (t : Texts) (w : World) → lines_promise m form limit lines (world_with_texts t (world_after_take units.Script gone w)) ≡ lines_promise m form limit lines (world_with_texts (record t { script = script }) w)
+  pub script_apart : (gone : Readings) (script : List ℕ) (t : Texts) (w : World) → lines_promise m settings lines (world_with_texts t (world_after_take units.Script gone w)) ≡ lines_promise m settings lines (world_with_texts (record t { script = script }) w)
   script_apart gone script t w =
       let old : World = world_with_texts t (world_after_take units.Script gone w) in
       let new : World = world_with_texts (record t { script = script }) w in
-      read_apart units.Commands (commands_read m) (events_at m form) (commands_promise m form limit lines) old new refl refl
-      (λ commands. source_apart m (events_at m form) (running_promise m (debugged_promise m form limit lines commands)) old new refl refl (λ source. refl))
+      read_apart units.Commands (commands_read m) (events_at m settings.form) (commands_promise m settings lines) old new refl refl
+      (λ commands. source_apart m (events_at m settings.form) (running_promise m (debugged_promise m settings lines commands)) old new refl refl (λ source. refl))

@@ -49,7 +49,7 @@ module _ (words : List (List ℕ)) (old new : Seen) (answer : Answer) (t : FedTr
   w = all_bound t.said.names old.world
 
   abbrev source : List ℕ
-  source = source_deck t.said.statements t.said.number
+  source = source_deck t.said.settings.statements t.said.settings.number
 
   abbrev binds : List Event
   binds = bind_events all_units t.said.names
@@ -67,10 +67,10 @@ module _ (words : List (List ℕ)) (old new : Seen) (answer : Answer) (t : FedTr
 
     -- by the first broken statement of its source
     abbrev by : Option Refusal → Promise
-    by o = promise_by (running_promise trial_modules (tried_promise t.said.statements t.said.number)) source o given
+    by o = promise_by (running_promise trial_modules (tried_promise t.said.settings)) source o given
 
     job_is : (said_promise t.said given).job ≡ option_map (job_behind binds) (by (refusal_of (size trial_modules) source)).job
-    job_is = ap (λ (command : Command). option_map (job_behind binds) (job_promise (modules_of t.said.core) command t.said given).job) t.command
+    job_is = ap (λ (command : Command). option_map (job_behind binds) (job_promise (modules_of t.said.core) command t.said.settings given).job) t.command
 
     abbrev loaded : Feed → LoadedMachine
     loaded feed =
@@ -81,12 +81,12 @@ module _ (words : List (List ℕ)) (old new : Seen) (answer : Answer) (t : FedTr
     with_program j = job_with_program (texts_of_program trial_modules source) j
 
     abbrev tried : Feed → Job
-    tried feed = job_behind binds (with_program (job_of_trial t.said.statements t.said.number (card_count trial_modules SelfLoading source) (turns_job (Some (deck_of (program_of trial_modules SelfLoading source))) (made_events (made_of trial_modules SelfLoading source)) trial_limit (loaded feed))))
+    tried feed = job_behind binds (with_program (job_of_trial t.said.settings.statements t.said.settings.number (card_count trial_modules SelfLoading source) (turns_job (Some (deck_of (program_of trial_modules SelfLoading source))) (made_events (made_of trial_modules SelfLoading source)) trial_limit (loaded feed))))
 
     by_source : (o : Option Refusal) → is_own answer.status ≡ true → Does (option_map (job_behind binds) (by o).job) → Ends
     by_source (Some r) own does = inr (ap is_refused does.status)
     by_source None own does =
-        let one : Does (Some (tried t.feed)) = subst Does (ap (λ (o : Option Feed). option_map (job_behind binds) (option_map with_program (option_map (job_of_trial t.said.statements t.said.number (card_count trial_modules SelfLoading source)) (option_map (λ feed. turns_job (Some (deck_of (program_of trial_modules SelfLoading source))) (made_events (made_of trial_modules SelfLoading source)) trial_limit (loaded feed)) o)))) t.feed_is) does in
+        let one : Does (Some (tried t.feed)) = subst Does (ap (λ (o : Option Feed). option_map (job_behind binds) (option_map with_program (option_map (job_of_trial t.said.settings.statements t.said.settings.number (card_count trial_modules SelfLoading source)) (option_map (λ feed. turns_job (Some (deck_of (program_of trial_modules SelfLoading source))) (made_events (made_of trial_modules SelfLoading source)) trial_limit (loaded feed)) o)))) t.feed_is) does in
         let last = last_place trial_limit (loaded t.feed).first in
         inl (subst (λ (s : Status). ends_a_run s ≡ true) (sym one.status) (own_ends last.steps (ending_of last.state) (subst (λ (s : Status). is_own s ≡ true) one.status own)))
 
@@ -112,7 +112,7 @@ module _ (words : List (List ℕ)) (old new : Seen) (answer : Answer) (t : Sound
   m = modules_of t.said.core
 
   abbrev form : DeckForm
-  form = t.said.form
+  form = t.said.settings.form
 
   abbrev behind : Option Job → Option Job
   behind o = option_map (job_behind (bind_events all_units t.said.names)) o
@@ -122,7 +122,7 @@ module _ (words : List (List ℕ)) (old new : Seen) (answer : Answer) (t : Sound
 
   abbrev session_of_feed : Feed → Job
   session_of_feed feed =
-      session_job (Some (deck_of (program_of m form t.source))) (made_events (made_of m form t.source)) (debugging_of m t.said.limit t.lines t.commands t.source)
+      session_job (Some (deck_of (program_of m form t.source))) (made_events (made_of m form t.source)) (debugging_of m t.said.settings t.lines t.commands t.source)
       (keyed_over (program_of m form t.source) bound t.lines feed)
 
   -- by any texts that are what is told
@@ -131,24 +131,24 @@ module _ (words : List (List ℕ)) (old new : Seen) (answer : Answer) (t : Sound
     here = world_with_texts texts bound
 
     abbrev from_script : Result (List ScriptLine) Status → Option Job
-    from_script x = job_read (λ lines. (lines_promise m form t.said.limit lines here).job) x
+    from_script x = job_read (λ lines. (lines_promise m t.said.settings lines here).job) x
 
     abbrev from_commands : Result (List commands.DebugCommand) Status → Option Job
-    from_commands x = job_read (λ cs. (commands_promise m form t.said.limit t.lines cs here).job) x
+    from_commands x = job_read (λ cs. (commands_promise m t.said.settings t.lines cs here).job) x
 
     abbrev from_source : Result (List ℕ) Status → Option Job
-    from_source x = job_read (λ source. (assembly_promise m (running_promise m (debugged_promise m form t.said.limit t.lines t.commands)) source here).job) x
+    from_source x = job_read (λ source. (assembly_promise m (running_promise m (debugged_promise m t.said.settings t.lines t.commands)) source here).job) x
 
     session_is : (said_promise t.said here).job ≡ behind (Some (with_its_program (session_of_feed t.feed)))
     session_is =
-        ap (λ (command : Command). behind (job_promise m command t.said here).job) t.command
+        ap (λ (command : Command). behind (job_promise m command t.said.settings here).job) t.command
         ∙ ap (λ (left : Option (List ℕ)). behind (option_and_then (λ text. from_script (script_read m text)) left)) (told_text (bound.left units.Script) t.script texts.script t.script_is told.script)
         ∙ ap (λ (x : Result (List ScriptLine) Status). behind (from_script x)) t.lines_are
         ∙ ap (λ (left : Option (List ℕ)). behind (option_and_then (λ text. from_commands (commands_read m text)) left)) (told_text (bound.left units.Commands) t.text texts.commands t.text_is told.commands)
         ∙ ap (λ (x : Result (List commands.DebugCommand) Status). behind (from_commands x)) t.commands_are
         ∙ ap (λ (left : Option (List ℕ)). behind (option_and_then (λ text. from_source (source_read text)) left)) (told_text (bound.left units.Source) t.source texts.source t.source_is told.source)
         ∙ ap (λ (x : Result (List ℕ) Status). behind (from_source x)) t.source_fits
-        ∙ ap (λ (x : Option Refusal). behind (promise_by (running_promise m (debugged_promise m form t.said.limit t.lines t.commands)) t.source x here).job) t.unbroken
+        ∙ ap (λ (x : Option Refusal). behind (promise_by (running_promise m (debugged_promise m t.said.settings t.lines t.commands)) t.source x here).job) t.unbroken
         ∙ ap (λ (o : Option Feed). behind (option_map with_its_program (option_map session_of_feed o))) t.feed_is
 
   session_said : DoesSaid t.said old new answer → (Rose old.faults new.faults → ⊥) → answer.status ≢ OutOfMemory → answer.status ≡ SessionEnded

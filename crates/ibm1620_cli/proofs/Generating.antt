@@ -6,6 +6,7 @@ use Rattle.outside_io.specs.Whole.{Stops}
 use Rattle.outside_io.specs.Events.{Event, text_events}
 use Rattle.outside_io.proofs.EventLemmas.{did_none, did_text, text_fails}
 use Rattle.sps_generator.specs.Generated.{source_deck}
+use Rattle.command_line.specs.declared.reading.Settings.{Settings}
 use Rattle.ibm1620_cli.specs.declared.status.Status.{Status}
 use Rattle.ibm1620_cli.specs.declared.status.Status.TheVariants.{Generated, HostFault, OutOfMemory}
 use Rattle.ibm1620_cli.specs.Report.{report_line}
@@ -15,12 +16,12 @@ use Rattle.ibm1620_cli.specs.Parts.{Reports}
 use Rattle.ibm1620_cli.proofs.TakenInputs.{text_takes}
 use Rattle.ibm1620_cli.proofs.Kept.{promise_report, promise_cut, promise_memory}
 
-module _ (statements number : ℕ) (start : Seen) where
+module _ (settings : Settings) (start : Seen) where
   abbrev promise : Promise
-  promise = generate_promise statements number start.world
+  promise = generate_promise settings start.world
 
   abbrev source : List ℕ
-  source = source_deck statements number
+  source = source_deck settings.statements settings.number
 
   abbrev written : List Event
   written = text_events units.Made source
@@ -31,12 +32,12 @@ module _ (statements number : ℕ) (start : Seen) where
 
   -- the host failed within the source
   pub making_stops : (new : Seen) → Stops start new units.Made source → KeepsPromise promise start new (answer_of HostFault)
-  making_stops new stops = promise_cut promise start new (Generated statements) written refl (text_takes units.Made source) (λ u read. ap (λ (w : World). w.asked u) stops.goes.world) (text_fails units.Made source start new stops)
+  making_stops new stops = promise_cut promise start new (Generated settings.statements) written refl (text_takes units.Made source) (λ u read. ap (λ (w : World). w.asked u) stops.goes.world) (text_fails units.Made source start new stops)
 
   -- the source was written, and that is reported
-  pub making_reports : (mid new : Seen) (status : Status) → Goes start mid (world_after_put units.Made source start.world) → Reports mid new (Generated statements) status → KeepsPromise promise start new (answer_of status)
+  pub making_reports : (mid new : Seen) (status : Status) → Goes start mid (world_after_put units.Made source start.world) → Reports mid new (Generated settings.statements) status → KeepsPromise promise start new (answer_of status)
   making_reports mid new status goes reports =
-      promise_report promise start mid new (Generated statements) (report_line (Generated statements)) (answer_of status) goes.later refl refl (λ is. refl) refl
+      promise_report promise start mid new (Generated settings.statements) (report_line (Generated settings.statements)) (answer_of status) goes.later refl refl (λ is. refl) refl
       (record {
         before = written;
         status_is = refl;

@@ -20,6 +20,7 @@ use Rattle.sps_pass_two.specs.Image.{cells_from}
 use Rattle.sps_pass_two.specs.Assembled.{fields_of, start_in}
 use Rattle.sps_pass_two.proofs.Program.{is_image, is_program, within, start_fits}
 use Rattle.command_line.specs.Words.{Names, Said}
+use Rattle.command_line.specs.declared.words.Command.{Command}
 use Rattle.command_line.specs.declared.words.CoreSize.{CoreSize}
 use Rattle.command_line.specs.declared.words.CoreSize.TheVariants.{OneModule, TwoModules, ThreeModules}
 use Rattle.ibm1620_cli.specs.declared.status.Status.{Status}
@@ -33,8 +34,8 @@ use Rattle.ibm1620_cli.specs.Program.{Program, Fits, deck_of, loaded_by, set_up_
 use Rattle.ibm1620_cli.specs.Source.{source_read, program_of, texts_of_program, made_of, made_events, promise_by, running_promise, assembly_promise}
 use Rattle.ibm1620_cli.specs.LoadJob.{script_read}
 use Rattle.ibm1620_cli.specs.RunJob.{turned_promise, script_promise}
-use Rattle.ibm1620_cli.specs.Job.{modules_of, bind_event, bind_events, said_promise, DoesSaid, DoesWords, Tells}
-use Rattle.ibm1620_cli.specs.Headline.{bytes_in, run_said, SoundRun, job_in, DoesProgram, Headline}
+use Rattle.ibm1620_cli.specs.Job.{modules_of, job_promise, bind_event, bind_events, said_promise, DoesSaid, DoesWords, Tells}
+use Rattle.ibm1620_cli.specs.Headline.{bytes_in, SoundRun, job_in, DoesProgram, Headline}
 use Rattle.ibm1620_cli.proofs.Told.{told_text}
 use Rattle.ibm1620_cli.proofs.Scripts.{short_read}
 use Rattle.ibm1620_cli.proofs.Sources.{short_source}
@@ -88,20 +89,23 @@ writes_taken [] = tt
 writes_taken (card ∷ cards) = writes_taken cards
 
 module _ (words : List (List ℕ)) (old new : Seen) (answer : Answer) (r : SoundRun words old.world) where
+  abbrev m : ℕ
+  m = modules_of r.said.core
+
   abbrev p : Program
-  p = program_of (modules_of r.core) r.form r.source
+  p = program_of m r.said.settings.form r.source
 
   fits : Fits p
-  fits = fits_of (modules_of r.core) (modules_exist r.core) r.form r.source r.unbroken
+  fits = fits_of m (modules_exist r.said.core) r.said.settings.form r.source r.unbroken
 
   abbrev w : World
-  w = all_bound r.names old.world
+  w = all_bound r.said.names old.world
 
   abbrev made : List Event
-  made = made_events (made_of (modules_of r.core) r.form r.source)
+  made = made_events (made_of m r.said.settings.form r.source)
 
   abbrev binds : List Event
-  binds = bind_events all_units r.names
+  binds = bind_events all_units r.said.names
 
   abbrev first : SetUp → RunPlace
   first s = first_over w s r.lines
@@ -110,13 +114,10 @@ module _ (words : List (List ℕ)) (old new : Seen) (answer : Answer) (r : Sound
   powered feed = state_over w (set_up_at_power_on p feed)
 
   abbrev with_program : Job → Job
-  with_program j = job_with_program (texts_of_program (modules_of r.core) r.source) j
+  with_program j = job_with_program (texts_of_program m r.source) j
 
   abbrev whole : SetUp → Job
-  whole s = job_behind binds (with_program (turns_job (Some (deck_of p)) made r.limit (loaded_by p r.feed (powered r.feed) (first s))))
-
-  abbrev said : Said
-  said = run_said r.names r.limit r.statements r.number r.form r.core
+  whole s = job_behind binds (with_program (turns_job (Some (deck_of p)) made r.said.settings.limit (loaded_by p r.feed (powered r.feed) (first s))))
 
   -- by any texts that are what is told
   module _ (t : Texts) (told : AreTold t w) where
@@ -124,25 +125,26 @@ module _ (words : List (List ℕ)) (old new : Seen) (answer : Answer) (r : Sound
     given = world_with_texts t w
 
     abbrev by_script : Result (List ScriptLine) Status → Option Job
-    by_script x = job_read (λ lines. (script_promise (modules_of r.core) r.form r.limit lines given).job) x
+    by_script x = job_read (λ lines. (script_promise m r.said.settings lines given).job) x
 
     abbrev by_source : Result (List ℕ) Status → Option Job
-    by_source x = job_read (λ source. (assembly_promise (modules_of r.core) (running_promise (modules_of r.core) (turned_promise (modules_of r.core) r.form r.limit r.lines)) source given).job) x
+    by_source x = job_read (λ source. (assembly_promise m (running_promise m (turned_promise m r.said.settings r.lines)) source given).job) x
 
-    job_is : (said_promise said given).job ≡ Some (whole (set_up_after_load p r.feed))
+    job_is : (said_promise r.said given).job ≡ Some (whole (set_up_after_load p r.feed))
     job_is =
-        ap (λ (left : Option (List ℕ)). option_map (job_behind binds) (option_and_then (λ text. by_script (script_read (modules_of r.core) text)) left)) (told_text (w.left units.Script) r.script t.script r.script_is told.script)
-        ∙ ap (λ (x : Result (List ScriptLine) Status). option_map (job_behind binds) (by_script x)) (short_read (modules_of r.core) r.script (Ok r.lines) r.script_fits r.lines_are)
+        ap (λ (command : Command). option_map (job_behind binds) (job_promise m command r.said.settings given).job) r.command
+        ∙ ap (λ (left : Option (List ℕ)). option_map (job_behind binds) (option_and_then (λ text. by_script (script_read m text)) left)) (told_text (w.left units.Script) r.script t.script r.script_is told.script)
+        ∙ ap (λ (x : Result (List ScriptLine) Status). option_map (job_behind binds) (by_script x)) (short_read m r.script (Ok r.lines) r.script_fits r.lines_are)
         ∙ ap (λ (left : Option (List ℕ)). option_map (job_behind binds) (option_and_then (λ text. by_source (source_read text)) left)) (told_text (w.left units.Source) r.source t.source r.source_is told.source)
         ∙ ap (λ (x : Result (List ℕ) Status). option_map (job_behind binds) (by_source x)) (short_source r.source r.source_fits)
-        ∙ ap (λ (x : Option Refusal). option_map (job_behind binds) (promise_by (running_promise (modules_of r.core) (turned_promise (modules_of r.core) r.form r.limit r.lines)) r.source x given).job) r.unbroken
-        ∙ ap (λ (o : Option Feed). option_map (job_behind binds) (option_map with_program (option_map (λ feed. turns_job (Some (deck_of p)) made r.limit (loaded_by p feed (powered feed) (first (set_up_after_load p feed)))) o))) r.feed_is
+        ∙ ap (λ (x : Option Refusal). option_map (job_behind binds) (promise_by (running_promise m (turned_promise m r.said.settings r.lines)) r.source x given).job) r.unbroken
+        ∙ ap (λ (o : Option Feed). option_map (job_behind binds) (option_map with_program (option_map (λ feed. turns_job (Some (deck_of p)) made r.said.settings.limit (loaded_by p feed (powered feed) (first (set_up_after_load p feed)))) o))) r.feed_is
 
   set_up_is : set_up_after_load p r.feed ≡ set_up_at_start p r.feed
   set_up_is = λ i. same_set_up p fits i r.feed
 
   -- the turns begin in the program's own machine
-  entered_is : (t : Texts) → AreTold t w → (said_promise said (world_with_texts t w)).job ≡ Some (job_in r)
+  entered_is : (t : Texts) → AreTold t w → (said_promise r.said (world_with_texts t w)).job ≡ Some (job_in r)
   entered_is t told = job_is t told ∙ ap (λ (s : SetUp). Some (whole s)) set_up_is
 
   abbrev place : RunPlace
@@ -150,13 +152,13 @@ module _ (words : List (List ℕ)) (old new : Seen) (answer : Answer) (r : Sound
 
   -- what the turns and the loading before them do
   abbrev done : List Event
-  done = made ++ (deck_taken (deck_of p) ++ run_events r.limit place)
+  done = made ++ (deck_taken (deck_of p) ++ run_events r.said.settings.limit place)
 
   writes : AreWrites (done ++ text_events units.Report (report_line (job_in r).status))
   writes =
       writes_both reads_pack done (text_events units.Report (report_line (job_in r).status))
-      (writes_both reads_pack made (deck_taken (deck_of p) ++ run_events r.limit place) (made_writes (made_of (modules_of r.core) r.form r.source) reads_pack)
-      (writes_both reads_pack (deck_taken (deck_of p)) (run_events r.limit place) (writes_taken (deck_of p)) (writes_within r.limit (most_turns r.limit place) place)))
+      (writes_both reads_pack made (deck_taken (deck_of p) ++ run_events r.said.settings.limit place) (made_writes (made_of m r.said.settings.form r.source) reads_pack)
+      (writes_both reads_pack (deck_taken (deck_of p)) (run_events r.said.settings.limit place) (writes_taken (deck_of p)) (writes_within r.said.settings.limit (most_turns r.said.settings.limit place) place)))
       (writes_text reads_pack units.Report (report_line (job_in r).status))
 
   by_does : IsFresh old.world → is_own answer.status ≡ true → Ends (job_in r) old new answer → DoesProgram old r new answer
@@ -164,11 +166,11 @@ module _ (words : List (List ℕ)) (old new : Seen) (answer : Answer) (r : Sound
     loads = loads_in p.form p.image p.start fits.each fits.above;
     enters = set_up_is;
     does = does;
-    texts = texts_behind r.names (done ++ text_events units.Report (report_line (job_in r).status)) old.world new.world fresh.empty writes does.did;
-    ending = subst (λ (s : Status). ends_a_run s ≡ true) (sym does.status) (own_ends (last_place r.limit place).steps (ending_of (last_place r.limit place).state) (subst (λ (s : Status). is_own s ≡ true) does.status own));
+    texts = texts_behind r.said.names (done ++ text_events units.Report (report_line (job_in r).status)) old.world new.world fresh.empty writes does.did;
+    ending = subst (λ (s : Status). ends_a_run s ≡ true) (sym does.status) (own_ends (last_place r.said.settings.limit place).steps (ending_of (last_place r.said.settings.limit place).state) (subst (λ (s : Status). is_own s ≡ true) does.status own));
   }
 
-  of_said : IsFresh old.world → DoesSaid said old new answer → (Rose old.faults new.faults → ⊥) → answer.status ≢ OutOfMemory → DoesProgram old r new answer
+  of_said : IsFresh old.world → DoesSaid r.said old new answer → (Rose old.faults new.faults → ⊥) → answer.status ≢ OutOfMemory → DoesProgram old r new answer
   of_said fresh kept none found = elim kept.keeps [
     | inl own ↦ by_does fresh own.own (subst (λ (o : Option Job). IfSome o (λ j. Ends j old new answer)) (entered_is kept.texts kept.told) own.all)
     | inr (inl fault) ↦ absurd (none fault.rose)
@@ -176,7 +178,7 @@ module _ (words : List (List ℕ)) (old new : Seen) (answer : Answer) (r : Sound
   ]
 
   pub of_told : IsFresh old.world → Tells words old new answer → (Rose old.faults new.faults → ⊥) → answer.status ≢ OutOfMemory → DoesProgram old r new answer
-  of_told fresh (inl does) none found = of_said fresh (subst (λ (o : Option Said). DoesWords o old new answer) r.said does) none found
+  of_told fresh (inl does) none found = of_said fresh (subst (λ (o : Option Said). DoesWords o old new answer) r.said_is does) none found
   of_told fresh (inr lacks) none found = absurd (found lacks.0.lacks)
 
 pub headline_told : (words : List (List ℕ)) (old new : Seen) (answer : Answer) → IsFresh old.world → Tells words old new answer → Headline words old new answer

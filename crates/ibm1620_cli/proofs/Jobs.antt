@@ -75,12 +75,12 @@ module _ (said : Said) (old : Seen) where
   -- all files are bound, and the job is done
   pub said_all : (mid new : Seen) (answer : Answer) → Goes old mid (all_bound said.names old.world) → DoesJob said mid new answer → DoesSaid said old new answer
   said_all mid new answer goes job =
-      let kept : KeepsFrom (job_promise (modules_of said.core) said.command said) (all_bound said.names old.world) mid new answer =
-      subst (λ (w : World). KeepsFrom (job_promise (modules_of said.core) said.command said) w mid new answer) goes.world job in
+      let kept : KeepsFrom (job_promise (modules_of said.core) said.command said.settings) (all_bound said.names old.world) mid new answer =
+      subst (λ (w : World). KeepsFrom (job_promise (modules_of said.core) said.command said.settings) w mid new answer) goes.world job in
       record {
         texts = kept.texts;
         told = kept.told;
-        keeps = promise_bound binds (job_promise (modules_of said.core) said.command said (world_with_texts kept.texts (all_bound said.names old.world))) old mid new goes.later
+        keeps = promise_bound binds (job_promise (modules_of said.core) said.command said.settings (world_with_texts kept.texts (all_bound said.names old.world))) old mid new goes.later
             (same_of mid.world (after_events old.world binds) (goes.world ∙ sym (all_after all_units said.names old.world))) (binds_take all_units said.names)
             (λ u read. ap (λ (w : World). w.asked u) goes.world ∙ ap (λ (asked : unit.Unit → Option Asked). asked u) (first_asked UNIT_COUNT said.names old.world)) answer kept.keeps;
       }
@@ -147,7 +147,7 @@ module _ (said : Said) (old : Seen) where
       record {
         texts = texts_told w;
         told = are_told w;
-        keeps = inr (inl (record { status = refl; refusal = refl; statement = refl; rose = some.rose; part = some_part new some (job_promise (modules_of said.core) said.command said (world_with_texts (texts_told w) w)).job }));
+        keeps = inr (inl (record { status = refl; refusal = refl; statement = refl; rose = some.rose; part = some_part new some (job_promise (modules_of said.core) said.command said.settings (world_with_texts (texts_told w) w)).job }));
       }
 
   pub some_binds : (new : Seen) → BindsSome said.names old new → BindsNamed said.names old.world new.world HostFault

@@ -17,6 +17,7 @@ use Rattle.operator_script.specs.declared.script.ScriptLine.{ScriptLine}
 use Rattle.operator_script.specs.Scripts.{lines_left}
 use Rattle.operator_script.specs.Turn.{last_within}
 use Rattle.operator_script.specs.TurnEvents.{events_within}
+use Rattle.command_line.specs.declared.reading.Settings.{Settings}
 use Rattle.ibm1620_cli.specs.declared.answer.Answer.{Answer}
 use Rattle.ibm1620_cli.specs.Promise.{KeepsPromise}
 use Rattle.ibm1620_cli.specs.Turns.{Feed, feed_at, lines_of_feed, state_over, first_over, LoadedMachine, turns_promise}
@@ -64,10 +65,10 @@ is_keyed m w lines = λ i l. record {
   first = first_over w (λ punched typed. load_key (powered_to_load m l punched typed)) lines;
 }
 
-pub promise_load : (m limit : ℕ) (hopper : Hopper) (script : Script) (start new : Seen) (answer : Answer) → ((w : World) → hopper_left hopper w ≡ deck_and_data w) → ((w : World) → deck_left hopper w ≡ unit_entries units.Deck w) → own_cards hopper ≡ None → Begins hopper
-    → Executes m 0 limit hopper script start new answer → KeepsPromise (loaded_promise m limit (lines_left script) start.world) start new answer
-promise_load m limit hopper script start new answer holds deck own begins executes =
-    subst (λ (loaded : Loading → LoadedMachine). KeepsPromise (turns_promise None [] limit loaded (loading_at start.world)) start new answer) (is_keyed m start.world (lines_left script))
-    (promise_executes m 0 limit None [] pile_of cards_to_load (λ l. l.feed) (loading_at start.world) hopper script start start (powered_state m hopper start.world holds) (omega arith) (did_none start.world) (λ u read. refl) tt own begins
+pub promise_load : (m : ℕ) (settings : Settings) (hopper : Hopper) (script : Script) (start new : Seen) (answer : Answer) → ((w : World) → hopper_left hopper w ≡ deck_and_data w) → ((w : World) → deck_left hopper w ≡ unit_entries units.Deck w) → own_cards hopper ≡ None → Begins hopper
+    → Executes m 0 settings.limit hopper script start new answer → KeepsPromise (loaded_promise m settings (lines_left script) start.world) start new answer
+promise_load m settings hopper script start new answer holds deck own begins executes =
+    subst (λ (loaded : Loading → LoadedMachine). KeepsPromise (turns_promise None [] settings.limit loaded (loading_at start.world)) start new answer) (is_keyed m start.world (lines_left script))
+    (promise_executes m 0 settings.limit None [] pile_of cards_to_load (λ l. l.feed) (loading_at start.world) hopper script start start (powered_state m hopper start.world holds) (omega arith) (did_none start.world) (λ u read. refl) tt own begins
     (subst (λ (o : Option (List Entry)). IfSome (loading_at start.world) (λ l. IfSome o (λ left. pile_of l ≡ left))) (sym (deck start.world)) (pile_told (start.world.left units.Deck) (feed_at start.world)))
     new answer executes)

@@ -18,6 +18,7 @@ use Rattle.sps_listing.specs.Texts.{image_text}
 use Rattle.sps_listing.specs.Listing.{listing_text}
 use Rattle.deck_punch.specs.declared.form.DeckForm.{DeckForm}
 use Rattle.loader_cards.specs.ObjectDeck.{deck_in}
+use Rattle.command_line.specs.declared.reading.Settings.{Settings}
 use Rattle.ibm1620_cli.specs.declared.status.Status.{Status}
 use Rattle.ibm1620_cli.specs.declared.status.Status.TheVariants.{HostFault, OutOfMemory}
 use Rattle.ibm1620_cli.specs.declared.status.Status.TheVariants as statuses
@@ -26,7 +27,8 @@ use Rattle.ibm1620_cli.specs.Makings.{AreMakings}
 use Rattle.ibm1620_cli.specs.Inputs.{reads_nothing}
 use Rattle.ibm1620_cli.specs.Promise.{answer_of, TakesNone, unasked, KeepsPromise, nothing_done}
 use Rattle.ibm1620_cli.specs.Program.{deck_of}
-use Rattle.ibm1620_cli.specs.Source.{assembled_source, program_of, deck_text, SourceTexts, made_of, made_events}
+use Rattle.deck_punch.specs.DeckText.{deck_text}
+use Rattle.ibm1620_cli.specs.Source.{assembled_source, program_of, SourceTexts, made_of, made_events}
 use Rattle.ibm1620_cli.specs.AssembleJob.{assembled_status, written_promise}
 use Rattle.ibm1620_cli.specs.Parts.{Reports, made_with, StopsWithin, EventsOccur, Stays}
 use Rattle.ibm1620_cli.proofs.Writes.{AreWritesOf, writes_both, writes_text, does_binds, stops_fails, stops_asked}
@@ -104,31 +106,31 @@ module _ (m : ℕ) (form : DeckForm) (source : List ℕ) (a : Assembled) (is : I
       let many : length a.placed ≡ length (assembled_source m source).placed = sym (length-map a.placed text_of_placed) ∙ ap (λ (ps : List PlacedText). length ps) is.placed_are in
       λ i. statuses.Assembled (many i) (digit_count (is.pieces_are i)) (cards_are i)
 
-module _ (m : ℕ) (form : DeckForm) (source : List ℕ) where
+module _ (m : ℕ) (settings : Settings) (source : List ℕ) where
   abbrev status : Status
-  status = assembled_status m form source
+  status = assembled_status m settings.form source
 
   -- all are written, and that is reported
-  pub promise_written : (start mid new : Seen) (answered : Status) → Goes start mid (after_events start.world (made_events (made_of m form source))) → Reports mid new status answered → KeepsPromise (written_promise m form source start.world) start new (answer_of answered)
+  pub promise_written : (start mid new : Seen) (answered : Status) → Goes start mid (after_events start.world (made_events (made_of m settings.form source))) → Reports mid new status answered → KeepsPromise (written_promise m settings source start.world) start new (answer_of answered)
   promise_written start mid new answered goes reports =
-      promise_report (written_promise m form source start.world) start mid new status (report_line status) (answer_of answered) goes.later refl refl (λ is. refl) refl
+      promise_report (written_promise m settings source start.world) start mid new status (report_line status) (answer_of answered) goes.later refl refl (λ is. refl) refl
       (record {
-        before = made_events (made_of m form source);
+        before = made_events (made_of m settings.form source);
         status_is = refl;
         events_are = refl;
-        did = same_of mid.world (after_events start.world (made_events (made_of m form source))) goes.world;
+        did = same_of mid.world (after_events start.world (made_events (made_of m settings.form source))) goes.world;
         leaves = refl;
-        inputs = unasked (made_take (made_of m form source)) (goes_unasked (made_events (made_of m form source)) start mid goes) refl;
+        inputs = unasked (made_take (made_of m settings.form source)) (goes_unasked (made_events (made_of m settings.form source)) start mid goes) refl;
         refusal = λ other. tt;
         program = refl;
       }) reports
 
   -- nothing was written, or not all
-  pub promise_unwritten : (start new : Seen) (s : Status) → ((s ≡ OutOfMemory) × (new ≡ start)) ⊎ ((s ≡ HostFault) × StopsWithin (made_events (made_of m form source)) start new) → KeepsPromise (written_promise m form source start.world) start new (answer_of s)
-  promise_unwritten start new s (inl lacks) = rw (lacks.0, lacks.1) (promise_memory (written_promise m form source start.world) start start (did_none start.world) (λ u read. refl) refl refl)
+  pub promise_unwritten : (start new : Seen) (s : Status) → ((s ≡ OutOfMemory) × (new ≡ start)) ⊎ ((s ≡ HostFault) × StopsWithin (made_events (made_of m settings.form source)) start new) → KeepsPromise (written_promise m settings source start.world) start new (answer_of s)
+  promise_unwritten start new s (inl lacks) = rw (lacks.0, lacks.1) (promise_memory (written_promise m settings source start.world) start start (did_none start.world) (λ u read. refl) refl refl)
   promise_unwritten start new s (inr stops) =
-      let texts : List Event = made_events (made_of m form source) in
-      rw stops.0 (promise_cut (written_promise m form source start.world) start new status texts refl (made_take (made_of m form source)) (stops_asked texts start new stops.1) (stops_fails texts start new stops.1))
+      let texts : List Event = made_events (made_of m settings.form source) in
+      rw stops.0 (promise_cut (written_promise m settings source start.world) start new status texts refl (made_take (made_of m settings.form source)) (stops_asked texts start new stops.1) (stops_fails texts start new stops.1))
 
-  pub written_follows : FollowsSource m nothing_done (written_promise m form) source
-  written_follows = follows_nothing m (written_promise m form) source (λ w. refl) (λ gone t w. refl) (λ w. refl)
+  pub written_follows : FollowsSource m nothing_done (written_promise m settings) source
+  written_follows = follows_nothing m (written_promise m settings) source (λ w. refl) (λ gone t w. refl) (λ w. refl)

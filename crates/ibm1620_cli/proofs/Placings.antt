@@ -20,7 +20,7 @@ use Rattle.ibm1620_cli.specs.declared.status.Status.TheVariants.{HostFault}
 use Rattle.ibm1620_cli.specs.Report.{report_line}
 use Rattle.ibm1620_cli.specs.Inputs.{reads_pack}
 use Rattle.ibm1620_cli.specs.Promise.{answer_of, TakesNone, unasked, KeepsPromise, nothing_done}
-use Rattle.ibm1620_cli.specs.Source.{deck_text}
+use Rattle.deck_punch.specs.DeckText.{deck_text}
 use Rattle.ibm1620_cli.specs.Parts.{Reports, StopsWithin, EventsOccur, Stays}
 use Rattle.ibm1620_cli.specs.DiskJob.{placing_status, Placing, disk_placing, placing_with, sector_events, placing_events, placing_promise}
 use Rattle.ibm1620_cli.proofs.Writes.{AreWrites, writes_both, writes_text, does_binds, stops_fails, stops_asked}

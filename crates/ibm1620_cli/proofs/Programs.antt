@@ -18,6 +18,7 @@ use Rattle.operator_script.specs.Scripts.{lines_left}
 use Rattle.deck_punch.specs.declared.form.DeckForm.{DeckForm}
 use Rattle.loader_cards.specs.ObjectDeck.{steps_in}
 use Rattle.card_columns.specs.Types.{card_bytes}
+use Rattle.command_line.specs.declared.reading.Settings.{Settings}
 use Rattle.ibm1620_cli.specs.declared.answer.Answer.{Answer}
 use Rattle.ibm1620_cli.specs.Promise.{KeepsPromise}
 use Rattle.ibm1620_cli.specs.Turns.{Feed, feed_of, feed_at, lines_of_feed, state_over_feed, state_over, first_over, LoadedMachine, turns_promise}
@@ -84,10 +85,10 @@ module _ (p : Program) (fits : Fits p) where
       (promise_executes p.modules k limit (Some (deck_of p)) [] (λ feed. map Text (deck_of p)) (cards_before (deck_of p)) (λ feed. feed) (feed_at start.world) hopper script start start (powered_state p.modules (deck_of p) hopper start.world holds) (omega arith) (did_none start.world) (λ u read. refl) tt own begins
       (pile_told (deck_of p) hopper start.world deck) new answer executes)
 
-pub keeps_program_promise : (m : ℕ) (form : DeckForm) (limit steps : ℕ) (cards : List Card) (hopper : Hopper) (script : Script) (start new : Seen) (answer : Answer) → ((w : World) → hopper_left hopper w ≡ cards_and_data (map card_bytes cards) w)
+pub keeps_program_promise : (m : ℕ) (settings : Settings) (steps : ℕ) (cards : List Card) (hopper : Hopper) (script : Script) (start new : Seen) (answer : Answer) → ((w : World) → hopper_left hopper w ≡ cards_and_data (map card_bytes cards) w)
     → ((w : World) → deck_left hopper w ≡ Some (map Text (map card_bytes cards))) → own_cards hopper ≡ Some (map card_bytes cards)
-    → Begins hopper → steps ≡ steps_in form (length cards) → Executes m steps limit hopper script start new answer → KeepsProgramPromise m form limit (map card_bytes cards) (lines_left script) start new answer
-keeps_program_promise m form limit steps cards hopper script start new answer holds deck own begins steps_are executes p fits sized same is =
-    promise_program p fits limit hopper script start new answer (λ w. holds w ∙ ap (λ (texts : List (List ℕ)). cards_and_data texts w) is) (λ w. deck w ∙ ap (λ (texts : List (List ℕ)). Some (map Text texts)) is) (own ∙ ap (λ (texts : List (List ℕ)). Some texts) is) begins
-    (subst (λ (n : ℕ). Executes p.modules n limit hopper script start new answer) (steps_are ∙ ap (steps_in form) (sym (length-map cards card_bytes) ∙ ap length is) ∙ ap (λ (f : DeckForm). steps_in f (length (deck_of p))) (sym same))
-    (subst (λ (k : ℕ). Executes k steps limit hopper script start new answer) (sym sized) executes))
+    → Begins hopper → steps ≡ steps_in settings.form (length cards) → Executes m steps settings.limit hopper script start new answer → KeepsProgramPromise m settings (map card_bytes cards) (lines_left script) start new answer
+keeps_program_promise m settings steps cards hopper script start new answer holds deck own begins steps_are executes p fits sized same is =
+    promise_program p fits settings.limit hopper script start new answer (λ w. holds w ∙ ap (λ (texts : List (List ℕ)). cards_and_data texts w) is) (λ w. deck w ∙ ap (λ (texts : List (List ℕ)). Some (map Text texts)) is) (own ∙ ap (λ (texts : List (List ℕ)). Some texts) is) begins
+    (subst (λ (n : ℕ). Executes p.modules n settings.limit hopper script start new answer) (steps_are ∙ ap (steps_in settings.form) (sym (length-map cards card_bytes) ∙ ap length is) ∙ ap (λ (f : DeckForm). steps_in f (length (deck_of p))) (sym same))
+    (subst (λ (k : ℕ). Executes k steps settings.limit hopper script start new answer) (sym sized) executes))

@@ -12,6 +12,7 @@ use Rattle.sps_pass_one.specs.Layout.{Refusal}
 use Rattle.sps_pass_two.specs.Broken.{refusal_of}
 use Rattle.sps_generator.specs.Generated.{source_deck}
 use Rattle.deck_punch.specs.declared.form.DeckForm.TheVariants.{SelfLoading}
+use Rattle.command_line.specs.declared.reading.Settings.{Settings}
 use Rattle.ibm1620_cli.specs.declared.status.Status.{Status}
 use Rattle.ibm1620_cli.specs.declared.answer.Answer.{Answer}
 use Rattle.ibm1620_cli.specs.declared.status.Status.TheVariants.{HostFault, OutOfMemory}
@@ -21,7 +22,7 @@ use Rattle.ibm1620_cli.specs.Turns.{Feed, feed_at, state_over, first_over, Loade
 use Rattle.ibm1620_cli.specs.Program.{Program, Fits, deck_of, set_up_at_power_on, set_up_after_load, loaded_by}
 use Rattle.ibm1620_cli.specs.Source.{card_count, program_of, made_of, made_events, promise_by, running_promise}
 use Rattle.ibm1620_cli.specs.RunJob.{turned_promise}
-use Rattle.ibm1620_cli.specs.TrialJob.{trial_modules, trial_limit, steps_of, trial_line, line_behind, job_of_trial, with_trial, tried_promise, trial_promise}
+use Rattle.ibm1620_cli.specs.TrialJob.{trial_modules, trial_limit, trial_settings, steps_of, trial_line, line_behind, job_of_trial, with_trial, tried_promise, trial_promise}
 use Rattle.ibm1620_cli.specs.Parts.{RefusesSource, breaks, no_memory, ReportsBy, ReportsTrial, StopsWithin, Stays}
 use Rattle.ibm1620_cli.proofs.Told.{if_some, all_some, if_both}
 use Rattle.ibm1620_cli.proofs.Leaving.{rest_reported}
@@ -129,9 +130,9 @@ trial_stays None statements number cards old new status answer nothing = stays_s
 trial_stays (Some steps) statements number cards old new status answer reports = report_stays old new status (trial_line statements number cards steps) answer reports
 
 -- Behind the source that was made, where it breaks no rule.
-module _ (statements number : ℕ) (source : List ℕ) (start : Seen) where
+module _ (settings : Settings) (source : List ℕ) (start : Seen) where
   abbrev run : Promise
-  run = turned_promise trial_modules SelfLoading trial_limit [] source start.world
+  run = turned_promise trial_modules (trial_settings settings) [] source start.world
 
   abbrev cards : ℕ
   cards = card_count trial_modules SelfLoading source
@@ -150,8 +151,8 @@ module _ (statements number : ℕ) (source : List ℕ) (start : Seen) where
   counts_none s new (inr stops) = ap steps_of stops.0
 
   -- its texts are not written, or not all
-  pub promise_untried : (new : Seen) (s : Status) → ((s ≡ OutOfMemory) × (new ≡ start)) ⊎ ((s ≡ HostFault) × StopsWithin (made_events (made_of trial_modules SelfLoading source)) start new) → KeepsPromise (tried_promise statements number source start.world) start new (answer_of s)
-  promise_untried new s fails = without statements number cards run start new (answer_of s) (counts_none s new fails) (promise_run_unwritten trial_modules SelfLoading trial_limit [] source start new s fails)
+  pub promise_untried : (new : Seen) (s : Status) → ((s ≡ OutOfMemory) × (new ≡ start)) ⊎ ((s ≡ HostFault) × StopsWithin (made_events (made_of trial_modules SelfLoading source)) start new) → KeepsPromise (tried_promise settings source start.world) start new (answer_of s)
+  promise_untried new s fails = without settings.statements settings.number cards run start new (answer_of s) (counts_none s new fails) (promise_run_unwritten trial_modules (trial_settings settings) [] source start new s fails)
 
   run_inputs : Fits program → IfSome run.job HasInputs
   run_inputs fits =
@@ -159,19 +160,19 @@ module _ (statements number : ℕ) (source : List ℕ) (start : Seen) where
       (all_some (feed_at start.world) (λ feed. turns_inputs (Some (deck_of program)) texts trial_limit (loaded feed) (made_take (made_of trial_modules SelfLoading source)) (program_loaded program fits start.world [] feed)))
 
   -- its program was run, and the line is added
-  pub promise_tried : Fits program → (mid new : Seen) (ran : Answer) (status : Status) (count : ℕ) → count ≡ cards → start.faults ≤ mid.faults → ran.refusal ≡ None → ran.statement ≡ None → ReportsTrial statements number count mid new ran.status status → KeepsPromise run start mid ran
-      → KeepsPromise (tried_promise statements number source start.world) start new (record ran { status = status })
+  pub promise_tried : Fits program → (mid new : Seen) (ran : Answer) (status : Status) (count : ℕ) → count ≡ cards → start.faults ≤ mid.faults → ran.refusal ≡ None → ran.statement ≡ None → ReportsTrial settings.statements settings.number count mid new ran.status status → KeepsPromise run start mid ran
+      → KeepsPromise (tried_promise settings source start.world) start new (record ran { status = status })
   promise_tried fits mid new ran status count are later unrefused unstated reports kept =
-      promise_with statements number cards run start mid ran new status later unrefused unstated (run_inputs fits) (steps_of ran.status) refl
-      (subst (λ (n : ℕ). ReportsTrial statements number n mid new ran.status status) are reports) kept
+      promise_with settings.statements settings.number cards run start mid ran new status later unrefused unstated (run_inputs fits) (steps_of ran.status) refl
+      (subst (λ (n : ℕ). ReportsTrial settings.statements settings.number n mid new ran.status status) are reports) kept
 
 -- Behind the making of the source.
-module _ (statements number : ℕ) (start : Seen) where
+module _ (settings : Settings) (start : Seen) where
   abbrev made : List ℕ
-  made = source_deck statements number
+  made = source_deck settings.statements settings.number
 
   abbrev by : Option Refusal → Promise
-  by o = promise_by (running_promise trial_modules (tried_promise statements number)) made o start.world
+  by o = promise_by (running_promise trial_modules (tried_promise settings)) made o start.world
 
   -- no memory was found
   plain_by : (o : Option Refusal) → (by o).usage ≡ false
@@ -182,14 +183,14 @@ module _ (statements number : ℕ) (start : Seen) where
   unbound_by None = refl
   unbound_by (Some r) = refl
 
-  pub trial_lacks : KeepsPromise (trial_promise statements number start.world) start start (answer_of OutOfMemory)
+  pub trial_lacks : KeepsPromise (trial_promise settings start.world) start start (answer_of OutOfMemory)
   trial_lacks = promise_memory (by (refusal_of (size trial_modules) made)) start start (did_none start.world) (λ u read. refl) (unbound_by (refusal_of (size trial_modules) made)) (plain_by (refusal_of (size trial_modules) made))
 
   -- it breaks a rule, which is reported
-  pub trial_refused : (new : Seen) (answer : Answer) → RefusesSource trial_modules made start new answer → KeepsPromise (trial_promise statements number start.world) start new answer
-  trial_refused new answer (breaks statement rule part broken reports) = refused_promise (running_promise trial_modules (tried_promise statements number)) made (refusal_of (size trial_modules) made) start new statement rule part answer broken reports
+  pub trial_refused : (new : Seen) (answer : Answer) → RefusesSource trial_modules made start new answer → KeepsPromise (trial_promise settings start.world) start new answer
+  trial_refused new answer (breaks statement rule part broken reports) = refused_promise (running_promise trial_modules (tried_promise settings)) made (refusal_of (size trial_modules) made) start new statement rule part answer broken reports
   trial_refused new answer (no_memory is same) = rw (is, same) trial_lacks
 
   -- it breaks none
-  pub trial_unbroken : (new : Seen) (answer : Answer) → refusal_of (size trial_modules) made ≡ None → KeepsPromise (running_promise trial_modules (tried_promise statements number) made start.world) start new answer → KeepsPromise (trial_promise statements number start.world) start new answer
+  pub trial_unbroken : (new : Seen) (answer : Answer) → refusal_of (size trial_modules) made ≡ None → KeepsPromise (running_promise trial_modules (tried_promise settings) made start.world) start new answer → KeepsPromise (trial_promise settings start.world) start new answer
   trial_unbroken new answer good kept = subst (λ (o : Option Refusal). KeepsPromise (by o) start new answer) (sym good) kept

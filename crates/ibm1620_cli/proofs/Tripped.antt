@@ -396,7 +396,7 @@ module _ (words : List (List ℕ)) (old new : Seen) (answer : Answer) (r : Later
 
   -- what the load comes to
   abbrev loaded : Job
-  loaded = job_behind binds (turns_job None [] r.said.limit (keyed_machine m w given load))
+  loaded = job_behind binds (turns_job None [] r.said.settings.limit (keyed_machine m w given load))
 
   -- it is the same but for the way that its machine goes
   same_job : DeckLeads → without_way loaded ≡ later_job r cards set_up
@@ -412,14 +412,14 @@ module _ (words : List (List ℕ)) (old new : Seen) (answer : Answer) (r : Later
 
     -- the job by what is read of the script
     abbrev read_as : Result (List ScriptLine) Status → Option Job
-    read_as x = option_map (job_behind binds) (job_read (λ lines. (loaded_promise m r.said.limit lines given_by).job) x)
+    read_as x = option_map (job_behind binds) (job_read (λ lines. (loaded_promise m r.said.settings lines given_by).job) x)
 
     job_is : DeckLeads → (said_promise r.said given_by).job ≡ Some loaded
     job_is leads =
-        ap (λ (c : Command). option_map (job_behind binds) (job_promise m c r.said given_by).job) r.loads
-        ∙ ap (λ (left : Option (List ℕ)). option_map (job_behind binds) (option_and_then (λ text. job_read (λ lines. (loaded_promise m r.said.limit lines given_by).job) (script_read m text)) left)) (told_text (w.left units.Script) r.script t.script r.script_is told.script)
+        ap (λ (c : Command). option_map (job_behind binds) (job_promise m c r.said.settings given_by).job) r.loads
+        ∙ ap (λ (left : Option (List ℕ)). option_map (job_behind binds) (option_and_then (λ text. job_read (λ lines. (loaded_promise m r.said.settings lines given_by).job) (script_read m text)) left)) (told_text (w.left units.Script) r.script t.script r.script_is told.script)
         ∙ ap read_as (short_read m r.script (Ok given) r.script_fits r.lines_are)
-        ∙ (λ i. option_map (job_behind binds) (option_map (λ l. turns_job None [] r.said.limit (keyed_machine m w given l)) (loading_of (leads.deck_is i) (r.feed_is i))))
+        ∙ (λ i. option_map (job_behind binds) (option_map (λ l. turns_job None [] r.said.settings.limit (keyed_machine m w given l)) (loading_of (leads.deck_is i) (r.feed_is i))))
 
   later_said : DeckLeads → DoesSaid r.said old new answer → (Rose old.faults new.faults → ⊥) → answer.status ≢ OutOfMemory → Ends (later_job r cards set_up) old new answer
   later_said leads kept none found = elim kept.keeps [

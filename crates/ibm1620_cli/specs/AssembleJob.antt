@@ -5,6 +5,7 @@ use Rattle.outside_io.specs.World.{World, Seen}
 use Rattle.sps_pass_two.specs.declared.assembled.Assembled as assembled
 use Rattle.sps_pass_two.specs.Kept.{digit_count}
 use Rattle.deck_punch.specs.declared.form.DeckForm.{DeckForm}
+use Rattle.command_line.specs.declared.reading.Settings.{Settings}
 use Rattle.ibm1620_cli.specs.declared.status.Status.{Status}
 use Rattle.ibm1620_cli.specs.declared.status.Status.TheVariants.{Assembled}
 use Rattle.ibm1620_cli.specs.declared.answer.Answer.{Answer}
@@ -18,16 +19,16 @@ assembled_status m form source =
     Assembled (length a.placed) (digit_count a.pieces) (card_count m form source)
 
 -- what is done for such a source: its texts are written, and then the report line; no memory is taken once a byte is written
-abbrev pub written_promise : ℕ → DeckForm → List ℕ → World → Promise
-written_promise m form source w = record {
-  job = Some (job_with_report (assembled_status m form source) (made_events (made_of m form source)));
+abbrev pub written_promise : ℕ → Settings → List ℕ → World → Promise
+written_promise m settings source w = record {
+  job = Some (job_with_report (assembled_status m settings.form source) (made_events (made_of m settings.form source)));
   made = texts_alone (Some []);
   usage = false;
 }
 
 -- THE PROMISE OF AN ASSEMBLY, from the world in which its files are bound
-abbrev pub assemble_promise : ℕ → DeckForm → World → Promise
-assemble_promise m form = source_promise m nothing_done (written_promise m form)
+abbrev pub assemble_promise : ℕ → Settings → World → Promise
+assemble_promise m settings = source_promise m nothing_done (written_promise m settings)
 
 -- What the functions of this job answer.
 
@@ -35,8 +36,8 @@ assemble_promise m form = source_promise m nothing_done (written_promise m form)
 abbrev pub status_of_assembled : assembled.Assembled → ℕ → Status
 status_of_assembled a cards = Assembled (length a.placed) (digit_count a.image.pieces) cards
 
-abbrev pub WrittenPromise : ℕ → DeckForm → List ℕ → Seen → Seen → Answer → Type 0
-WrittenPromise m form source old new answer = KeepsPromise (written_promise m form source old.world) old new answer
+abbrev pub WrittenPromise : ℕ → Settings → List ℕ → Seen → Seen → Answer → Type 0
+WrittenPromise m settings source old new answer = KeepsPromise (written_promise m settings source old.world) old new answer
 
-abbrev pub AssemblyPromise : ℕ → DeckForm → Seen → Seen → Answer → Type 0
-AssemblyPromise m form old new answer = KeepsJob (assemble_promise m form) old new answer
+abbrev pub AssemblyPromise : ℕ → Settings → Seen → Seen → Answer → Type 0
+AssemblyPromise m settings old new answer = KeepsJob (assemble_promise m settings) old new answer

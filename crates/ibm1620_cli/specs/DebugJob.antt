@@ -14,7 +14,7 @@ use Rattle.console_debug.specs.declared.commands.DebugCommand.{DebugCommand}
 use Rattle.console_debug.specs.declared.commands.Commands.{Commands}
 use Rattle.console_debug.specs.CommandLists.{command_list}
 use Rattle.console_debug.specs.Grammar.{commands_of}
-use Rattle.deck_punch.specs.declared.form.DeckForm.{DeckForm}
+use Rattle.command_line.specs.declared.reading.Settings.{Settings}
 use Rattle.ibm1620_cli.specs.declared.status.Status.{Status}
 use Rattle.ibm1620_cli.specs.declared.status.Status.TheVariants.{BadCommand}
 use Rattle.ibm1620_cli.specs.declared.answer.Answer.{Answer}
@@ -57,51 +57,51 @@ keyed_over p w lines feed = record {
 }
 
 -- what the session over a source is given
-abbrev pub debugging_of : ℕ → ℕ → List ScriptLine → List DebugCommand → List ℕ → Debugging
-debugging_of m limit lines commands source = record {
-  limit = limit;
+abbrev pub debugging_of : ℕ → Settings → List ScriptLine → List DebugCommand → List ℕ → Debugging
+debugging_of m settings lines commands source = record {
+  limit = settings.limit;
   lines = lines;
   placed = (assembled_source m source).placed;
   commands = commands;
 }
 
 -- what is done for a source that breaks no rule: its texts are written, and then the session is held
-abbrev pub debugged_promise : ℕ → DeckForm → ℕ → List ScriptLine → List DebugCommand → List ℕ → World → Promise
-debugged_promise m form limit lines commands source w =
-    let written = made_events (made_of m form source) in
-    let given = debugging_of m limit lines commands source in
-    let p = program_of m form source in
+abbrev pub debugged_promise : ℕ → Settings → List ScriptLine → List DebugCommand → List ℕ → World → Promise
+debugged_promise m settings lines commands source w =
+    let written = made_events (made_of m settings.form source) in
+    let given = debugging_of m settings lines commands source in
+    let p = program_of m settings.form source in
     session_promise (Some (deck_of p)) written given (keyed_over p w lines) (feed_at w)
 
 -- what is done once the commands are read
-abbrev pub commands_promise : ℕ → DeckForm → ℕ → List ScriptLine → List DebugCommand → World → Promise
-commands_promise m form limit lines commands =
-    source_promise m (events_at m form) (running_promise m (debugged_promise m form limit lines commands))
+abbrev pub commands_promise : ℕ → Settings → List ScriptLine → List DebugCommand → World → Promise
+commands_promise m settings lines commands =
+    source_promise m (events_at m settings.form) (running_promise m (debugged_promise m settings lines commands))
 
 -- what is done once the script is read
-abbrev pub lines_promise : ℕ → DeckForm → ℕ → List ScriptLine → World → Promise
-lines_promise m form limit lines =
-    read_promise units.Commands (commands_read m) (events_at m form) (commands_promise m form limit lines)
+abbrev pub lines_promise : ℕ → Settings → List ScriptLine → World → Promise
+lines_promise m settings lines =
+    read_promise units.Commands (commands_read m) (events_at m settings.form) (commands_promise m settings lines)
 
 -- THE PROMISE OF A SESSION'S JOB, from the world in which its files are bound
-abbrev pub debug_promise : ℕ → DeckForm → ℕ → World → Promise
-debug_promise m form limit =
-    read_promise units.Script (script_read m) (events_at m form) (lines_promise m form limit)
+abbrev pub debug_promise : ℕ → Settings → World → Promise
+debug_promise m settings =
+    read_promise units.Script (script_read m) (events_at m settings.form) (lines_promise m settings)
 
 -- What the functions of this job answer.
 
-abbrev pub DebugsAssembled : ℕ → DeckForm → ℕ → Script → Commands → List ℕ → Seen → Seen → Answer → Type 0
-DebugsAssembled m form limit script commands source old new answer =
-    let promise = debugged_promise m form limit (lines_left script) (command_list commands) source old.world in
+abbrev pub DebugsAssembled : ℕ → Settings → Script → Commands → List ℕ → Seen → Seen → Answer → Type 0
+DebugsAssembled m settings script commands source old new answer =
+    let promise = debugged_promise m settings (lines_left script) (command_list commands) source old.world in
     KeepsPromise promise old new answer
 
-abbrev pub DebugsBy : ℕ → DeckForm → ℕ → Script → Commands → Seen → Seen → Answer → Type 0
-DebugsBy m form limit script commands old new answer =
-    KeepsJob (commands_promise m form limit (lines_left script) (command_list commands)) old new answer
+abbrev pub DebugsBy : ℕ → Settings → Script → Commands → Seen → Seen → Answer → Type 0
+DebugsBy m settings script commands old new answer =
+    KeepsJob (commands_promise m settings (lines_left script) (command_list commands)) old new answer
 
-abbrev pub DebugsUnder : ℕ → DeckForm → ℕ → Script → Seen → Seen → Answer → Type 0
-DebugsUnder m form limit script old new answer =
-    KeepsJob (lines_promise m form limit (lines_left script)) old new answer
+abbrev pub DebugsUnder : ℕ → Settings → Script → Seen → Seen → Answer → Type 0
+DebugsUnder m settings script old new answer =
+    KeepsJob (lines_promise m settings (lines_left script)) old new answer
 
-abbrev pub DebugsSource : ℕ → DeckForm → ℕ → Seen → Seen → Answer → Type 0
-DebugsSource m form limit old new answer = KeepsJob (debug_promise m form limit) old new answer
+abbrev pub DebugsSource : ℕ → Settings → Seen → Seen → Answer → Type 0
+DebugsSource m settings old new answer = KeepsJob (debug_promise m settings) old new answer

@@ -12,7 +12,8 @@ use Rattle.ibm1620_cli.specs.declared.status.Status.TheVariants.{Placed}
 use Rattle.ibm1620_cli.specs.declared.answer.Answer.{Answer}
 use Rattle.ibm1620_cli.specs.Promise.{job_with_report, texts_alone, Promise, KeepsPromise, KeepsJob, nothing_done}
 use Rattle.outside_io.specs.Events.{Event, WriteSector, text_events, DidPart}
-use Rattle.ibm1620_cli.specs.Source.{assembled_source, deck_text, source_promise}
+use Rattle.deck_punch.specs.DeckText.{deck_text}
+use Rattle.ibm1620_cli.specs.Source.{assembled_source, source_promise}
 
 -- the bootstrap deck of a source that breaks no rule, and the sectors that it loads
 abbrev pub boot_cards : ℕ → List ℕ → List (List ℕ)

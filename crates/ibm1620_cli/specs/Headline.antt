@@ -11,9 +11,7 @@ use Rattle.sps_pass_two.specs.Broken.{refusal_of}
 use Rattle.ibm1620_cli.specs.declared.answer.Answer.{Answer}
 use Rattle.ibm1620_cli.specs.declared.status.Status.TheVariants.{OutOfMemory}
 use Rattle.command_line.specs.declared.words.Command.TheVariants.{Run}
-use Rattle.command_line.specs.Words.{Names, Said, plain}
-use Rattle.deck_punch.specs.declared.form.DeckForm.{DeckForm}
-use Rattle.command_line.specs.declared.words.CoreSize.{CoreSize}
+use Rattle.command_line.specs.Words.{Said, plain}
 use Rattle.ibm1620_cli.specs.Job.{modules_of, bind_events}
 use Rattle.ibm1620_cli.specs.Binding.{all_bound}
 use Rattle.ibm1620_cli.specs.Promise.{Job, job_behind, job_with_program, Ends}
@@ -28,54 +26,38 @@ bytes_in u [] = []
 bytes_in u (WriteByte v byte ∷ ds) = if same_unit v u then byte ∷ bytes_in u ds else bytes_in u ds
 bytes_in u (d ∷ ds) = bytes_in u ds
 
--- the words say `run`, with these names and values of options
-abbrev pub run_said : Names → ℕ → ℕ → ℕ → DeckForm → CoreSize → Said
-run_said names limit statements number form core = record {
-  command = Run;
-  names = names;
-  limit = limit;
-  statements = statements;
-  number = number;
-  form = form;
-  core = core;
-}
-
 -- A sound run: the words say `run`; its script and its source are no longer than they may be; the script keeps its grammar, and no
 -- statement of the source breaks a rule. The host tells their bytes, and what the machine is fed with.
 pub record SoundRun (words : List (List ℕ)) (w : World) : Type 0 where
-  pub names : Names
-  pub limit : ℕ
-  pub statements : ℕ
-  pub number : ℕ
-  pub form : DeckForm
-  pub core : CoreSize
-  pub said : plain words ≡ Some (run_said names limit statements number form core)
+  pub said : Said
+  pub said_is : plain words ≡ Some said
+  pub command : said.command ≡ Run
   pub script : List ℕ
-  pub script_is : (all_bound names w).left units.Script ≡ Some script
+  pub script_is : (all_bound said.names w).left units.Script ≡ Some script
   pub script_fits : length script ≤ longest_script
   pub lines : List ScriptLine
-  pub lines_are : script_of (size (modules_of core)) script ≡ Ok lines
+  pub lines_are : script_of (size (modules_of said.core)) script ≡ Ok lines
   pub source : List ℕ
-  pub source_is : (all_bound names w).left units.Source ≡ Some source
+  pub source_is : (all_bound said.names w).left units.Source ≡ Some source
   pub source_fits : length source ≤ longest_source
-  pub unbroken : refusal_of (size (modules_of core)) source ≡ None
+  pub unbroken : refusal_of (size (modules_of said.core)) source ≡ None
   pub feed : Feed
-  pub feed_is : feed_at (all_bound names w) ≡ Some feed
+  pub feed_is : feed_at (all_bound said.names w) ≡ Some feed
 
 -- its program, whose deck has the form that the words say
 abbrev pub program_in : {words : List (List ℕ)} {w : World} → SoundRun words w → Program
-program_in r = program_of (modules_of r.core) r.form r.source
+program_in r = program_of (modules_of r.said.core) r.said.settings.form r.source
 
 -- all that it does: its files are bound, its texts are written, the cards of its deck are taken, and then come the turns, as the instruction
 -- table gives them, from the program's own machine on; the program is that of its source
 abbrev pub job_in : {words : List (List ℕ)} {w : World} → SoundRun words w → Job
 job_in {w = w} r =
-    let made = made_events (made_of (modules_of r.core) r.form r.source) in
-    let powered = state_over (all_bound r.names w) (set_up_at_power_on (program_in r) r.feed) in
-    let first = first_over (all_bound r.names w) (set_up_at_start (program_in r) r.feed) r.lines in
-    job_behind (bind_events all_units r.names)
-    (job_with_program (texts_of_program (modules_of r.core) r.source)
-    (turns_job (Some (deck_of (program_in r))) made r.limit (loaded_by (program_in r) r.feed powered first)))
+    let made = made_events (made_of (modules_of r.said.core) r.said.settings.form r.source) in
+    let powered = state_over (all_bound r.said.names w) (set_up_at_power_on (program_in r) r.feed) in
+    let first = first_over (all_bound r.said.names w) (set_up_at_start (program_in r) r.feed) r.lines in
+    job_behind (bind_events all_units r.said.names)
+    (job_with_program (texts_of_program (modules_of r.said.core) r.source)
+    (turns_job (Some (deck_of (program_in r))) made r.said.settings.limit (loaded_by (program_in r) r.feed powered first)))
 
 -- What the program of a sound run does, under its script and up to its limit:
 --   loads: the Load key over its deck, and the deck's steps, leave over any core the image over both standard tables, and enter the start;

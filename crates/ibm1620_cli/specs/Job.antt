@@ -12,6 +12,7 @@ use Rattle.command_line.specs.declared.words.Command.{Command}
 use Rattle.command_line.specs.declared.words.Command.TheVariants.{Assemble, Load, Run, Debug, Generate, Trial, Disk}
 use Rattle.command_line.specs.declared.words.CoreSize.{CoreSize}
 use Rattle.command_line.specs.declared.words.CoreSize.TheVariants.{OneModule, TwoModules, ThreeModules}
+use Rattle.command_line.specs.declared.reading.Settings.{Settings}
 use Rattle.command_line.specs.Words.{Names, Said, plain, names_of}
 use Rattle.ibm1620_cli.specs.Binding.{all_bound, BindsNamed}
 use Rattle.ibm1620_cli.specs.Inputs.{EndsOnce, reads_nothing, reads_source, reads_feed, placing_reads, load_reads, run_reads, debug_reads}
@@ -30,15 +31,15 @@ modules_of OneModule = 1
 modules_of TwoModules = 2
 modules_of ThreeModules = 3
 
--- THE TABLE of jobs: the promise of each command for so many modules of core, from the world in which its files are bound
-abbrev pub job_promise : ℕ → Command → Said → World → Promise
-job_promise m Assemble said = assemble_promise m said.form
-job_promise m Load said = load_promise m said.limit
-job_promise m Run said = run_promise m said.form said.limit
-job_promise m Debug said = debug_promise m said.form said.limit
-job_promise m Generate said = generate_promise said.statements said.number
-job_promise m Trial said = trial_promise said.statements said.number
-job_promise m Disk said = disk_promise m
+-- THE TABLE of jobs: the promise of each command for so many modules of core, by the settings, from the world in which its files are bound
+abbrev pub job_promise : ℕ → Command → Settings → World → Promise
+job_promise m Assemble settings = assemble_promise m settings
+job_promise m Load settings = load_promise m settings
+job_promise m Run settings = run_promise m settings
+job_promise m Debug settings = debug_promise m settings
+job_promise m Generate settings = generate_promise settings
+job_promise m Trial settings = trial_promise settings
+job_promise m Disk settings = disk_promise m
 
 -- THE TABLE of inputs: which of them each command reads, and whether it works with the pack
 abbrev pub reads : Command → unit.Unit → Bool
@@ -63,7 +64,7 @@ bind_events (u ∷ us) names = bind_event u (names u) ++ bind_events us names
 -- all files are bound, and then the job of the command is done in the world where they are
 abbrev pub said_promise : Said → World → Promise
 said_promise said bound =
-    promise_behind (bind_events all_units said.names) (job_promise (modules_of said.core) said.command said bound)
+    promise_behind (bind_events all_units said.names) (job_promise (modules_of said.core) said.command said.settings bound)
 
 -- words that are not plain: the line that says so, and nothing else
 abbrev pub usage_promise : Promise
@@ -134,7 +135,7 @@ BindsFiles said old new answer = BindsNamed said.names old.world new.world answe
 
 -- once the files are bound, by a machine with so many modules of core
 abbrev pub DoesJobIn : ℕ → Said → Seen → Seen → Answer → Type 0
-DoesJobIn m said old new answer = KeepsJob (job_promise m said.command said) old new answer
+DoesJobIn m said old new answer = KeepsJob (job_promise m said.command said.settings) old new answer
 
 abbrev pub DoesJob : Said → Seen → Seen → Answer → Type 0
 DoesJob said old new answer = DoesJobIn (modules_of said.core) said old new answer

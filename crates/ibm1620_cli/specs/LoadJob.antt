@@ -10,6 +10,7 @@ use Rattle.operator_script.specs.declared.script.Script.{Script}
 use Rattle.operator_script.specs.declared.script.ScriptLine.{ScriptLine}
 use Rattle.operator_script.specs.Script.{script_of}
 use Rattle.operator_script.specs.Scripts.{lines_left}
+use Rattle.command_line.specs.declared.reading.Settings.{Settings}
 use Rattle.ibm1620_cli.specs.declared.status.Status.{Status}
 use Rattle.ibm1620_cli.specs.declared.status.Status.TheVariants.{BadScript}
 use Rattle.ibm1620_cli.specs.declared.answer.Answer.{Answer}
@@ -67,18 +68,18 @@ script_read m script =
     read_within longest_script units.Script (λ text. lines_or_status (script_of (size m) text)) script
 
 -- what is done once the script is read
-abbrev pub loaded_promise : ℕ → ℕ → List ScriptLine → World → Promise
-loaded_promise m limit lines w = turns_promise None [] limit (keyed_machine m w lines) (loading_at w)
+abbrev pub loaded_promise : ℕ → Settings → List ScriptLine → World → Promise
+loaded_promise m settings lines w = turns_promise None [] settings.limit (keyed_machine m w lines) (loading_at w)
 
 -- THE PROMISE OF A LOAD, from the world in which its files are bound
-abbrev pub load_promise : ℕ → ℕ → World → Promise
-load_promise m limit = read_promise units.Script (script_read m) nothing_done (loaded_promise m limit)
+abbrev pub load_promise : ℕ → Settings → World → Promise
+load_promise m settings = read_promise units.Script (script_read m) nothing_done (loaded_promise m settings)
 
 -- What the functions of this job answer.
 
-abbrev pub LoadedPromise : ℕ → ℕ → Script → Seen → Seen → Answer → Type 0
-LoadedPromise m limit script old new answer =
-    KeepsPromise (loaded_promise m limit (lines_left script) old.world) old new answer
+abbrev pub LoadedPromise : ℕ → Settings → Script → Seen → Seen → Answer → Type 0
+LoadedPromise m settings script old new answer =
+    KeepsPromise (loaded_promise m settings (lines_left script) old.world) old new answer
 
-abbrev pub LoadPromise : ℕ → ℕ → Seen → Seen → Answer → Type 0
-LoadPromise m limit old new answer = KeepsJob (load_promise m limit) old new answer
+abbrev pub LoadPromise : ℕ → Settings → Seen → Seen → Answer → Type 0
+LoadPromise m settings old new answer = KeepsJob (load_promise m settings) old new answer

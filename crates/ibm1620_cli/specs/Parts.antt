@@ -33,6 +33,7 @@ use Rattle.console_debug.specs.CommandLists.{IsCommand, HasRoom, command_list}
 use Rattle.console_debug.specs.Debugs.{task, without_count, EndsSession, BreaksSession}
 use Rattle.deck_punch.specs.declared.form.DeckForm.{DeckForm}
 use Rattle.loader_cards.specs.ObjectDeck.{fewest_in}
+use Rattle.command_line.specs.declared.reading.Settings.{Settings}
 use Rattle.ibm1620_cli.specs.declared.status.Status.{Status}
 use Rattle.ibm1620_cli.specs.declared.answer.Answer.{Answer}
 use Rattle.ibm1620_cli.specs.declared.status.Status.TheVariants.{Refused, HostFault, OutOfMemory, SessionEnded}
@@ -197,10 +198,10 @@ WritesSource m form source old new (Err s) =
     ((s ≡ OutOfMemory) × (new ≡ old))
     ⊎ ((s ≡ HostFault) × EventsOccur (made_events (made_of m form source)) old new sent.Failed)
 
--- the promise of each program for so many modules of core that has these cards as its deck in a form is kept
-abbrev pub ProgramPromise : ℕ → DeckForm → ℕ → Vec Card Global → Script → Seen → Seen → Answer → Type 0
-ProgramPromise m form limit cards script old new answer =
-    KeepsProgramPromise m form limit (map card_bytes cards.items) (lines_left script) old new answer
+-- the promise of each program for so many modules of core that has these cards as its deck, in the form of the settings, is kept
+abbrev pub ProgramPromise : ℕ → Settings → Vec Card Global → Script → Seen → Seen → Answer → Type 0
+ProgramPromise m settings cards script old new answer =
+    KeepsProgramPromise m settings (map card_bytes cards.items) (lines_left script) old new answer
 
 -- the answer shows the console of a machine, and no statement
 pub record ShowsMachine (m : ℕ) (machine : Machine m) (answer : Answer) : Type 0 where

@@ -21,6 +21,7 @@ use Rattle.loader_cards.specs.ObjectDeck.{deck_in, steps_in}
 use Rattle.deck_punch.specs.Overlay.{overlay}
 use Rattle.loader_cards.specs.Loads.{Loads}
 use Rattle.card_steps.specs.Steps.{after_steps, deck_taken}
+use Rattle.command_line.specs.declared.reading.Settings.{Settings}
 use Rattle.ibm1620_cli.specs.declared.answer.Answer.{Answer}
 use Rattle.outside_io.specs.Events.{Event}
 use Rattle.ibm1620_cli.specs.Promise.{Promise, KeepsPromise}
@@ -100,11 +101,11 @@ program_promise before limit lines p w =
     turns_promise (Some (deck_of p)) before limit
     (λ feed. loaded_by p feed (state_over w (set_up_at_power_on p feed)) (first_over w (set_up_after_load p feed) lines)) (feed_at w)
 
--- the promise of each program for so many modules of core that has this deck in this form is kept
-abbrev pub KeepsProgramPromise : ℕ → DeckForm → ℕ → List (List ℕ) → List ScriptLine → Seen → Seen → Answer → Type 0
-KeepsProgramPromise m form limit cards lines old new answer =
-    (p : Program) → Fits p → p.modules ≡ m → p.form ≡ form → cards ≡ deck_of p
-    → KeepsPromise (program_promise [] limit lines p old.world) old new answer
+-- the promise of each program for so many modules of core that has this deck, in the form of the settings, is kept
+abbrev pub KeepsProgramPromise : ℕ → Settings → List (List ℕ) → List ScriptLine → Seen → Seen → Answer → Type 0
+KeepsProgramPromise m settings cards lines old new answer =
+    (p : Program) → Fits p → p.modules ≡ m → p.form ≡ settings.form → cards ≡ deck_of p
+    → KeepsPromise (program_promise [] settings.limit lines p old.world) old new answer
 
 -- THE HEADLINE: by the deck's steps or from the overlaid core on, the job of a run's turns is the same, for every program, script, limit
 -- and feed, whatever was done before, and whatever was punched and typed by then

@@ -37,7 +37,8 @@ use Rattle.ibm1620_cli.specs.Report.{report_line}
 use Rattle.ibm1620_cli.specs.Promise.{Job, job_behind, job_leaving, Ends}
 use Rattle.ibm1620_cli.specs.Turns.{Feed, feed_at, lines_of_feed, SetUp, first_in, first_over, status_of}
 use Rattle.ibm1620_cli.specs.Program.{Program, deck_of, steps_of_deck, cards_before, set_up_at_start}
-use Rattle.ibm1620_cli.specs.Source.{SourceTexts, deck_text, assembled_source, program_of, made_of}
+use Rattle.deck_punch.specs.DeckText.{deck_text}
+use Rattle.ibm1620_cli.specs.Source.{SourceTexts, assembled_source, program_of, made_of}
 use Rattle.ibm1620_cli.specs.LoadJob.{Loading, powered_to_load, state_after_load_key, longest_script}
 use Rattle.ibm1620_cli.specs.DiskJob.{boot_cards, sectors_of_source, disk_placing, placing_events}
 use Rattle.ibm1620_cli.specs.Job.{modules_of, bind_events}
@@ -179,7 +180,7 @@ pub record LaterLoad (words : List (List ℕ)) (w : World) : Type 0 where
   pub loads : said.command ≡ Load
   pub steps : ℕ
   pub limit : ℕ
-  pub limit_is : said.limit ≡ limit + steps
+  pub limit_is : said.settings.limit ≡ limit + steps
   pub script : List ℕ
   pub script_is : (all_bound said.names w).left units.Script ≡ Some script
   pub script_fits : length script ≤ longest_script

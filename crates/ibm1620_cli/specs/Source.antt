@@ -1,15 +1,14 @@
 -- A job with a source: it's read and assembled, and the first broken statement is reported, or its texts are made.
 use Rattle.std.specs.Prelude.{ℕ, List, [], ◌++◌, length, Option, Some, None, Result, false, option_map}
-use Rattle.std.specs.List.{flat_map}
 use Rattle.outside_io.specs.declared.host.Unit.TheVariants as units
 use Rattle.outside_io.specs.World.{World}
 use Rattle.digit_core.specs.Size.{size}
 use Rattle.sps_pass_one.specs.Layout.{Refusal}
 use Rattle.sps_pass_two.specs.{refusal_of, AssembledText, assembled_text}
-use Rattle.report_lines.specs.Numbers.{with_line_feed}
 use Rattle.sps_listing.specs.Texts.{image_text, refusal_line}
 use Rattle.sps_listing.specs.Refused.{refused_text}
 use Rattle.sps_listing.specs.Listing.{listing_text}
+use Rattle.deck_punch.specs.DeckText.{deck_text}
 use Rattle.deck_punch.specs.declared.form.DeckForm.{DeckForm}
 use Rattle.ibm1620_cli.specs.declared.status.Status.{Status}
 use Rattle.ibm1620_cli.specs.declared.status.Status.TheVariants.{Refused}
@@ -46,10 +45,6 @@ texts_of_program m source = record { source = source; placed = (assembled_source
 -- how many cards its deck has
 abbrev pub card_count : ℕ → DeckForm → List ℕ → ℕ
 card_count m form source = length (deck_of (program_of m form source))
-
--- the text of a deck: a line for each card
-abbrev pub deck_text : List (List ℕ) → List ℕ
-deck_text cards = flat_map with_line_feed cards
 
 -- the texts that are made of a source: its object deck, its image and its listing
 pub record SourceTexts : Type 0 where

@@ -6,6 +6,7 @@ use Rattle.outside_io.specs.Events.{text_events}
 use Rattle.sps_generator.specs.Generated.{source_deck}
 use Rattle.report_lines.specs.Numbers.{at_count}
 use Rattle.deck_punch.specs.declared.form.DeckForm.TheVariants.{SelfLoading}
+use Rattle.command_line.specs.declared.reading.Settings.{Settings}
 use Rattle.ibm1620_cli.specs.declared.status.Status.{Status}
 use Rattle.ibm1620_cli.specs.declared.answer.Answer.{Answer}
 use Rattle.ibm1620_cli.specs.declared.status.Status.TheVariants.{Halted, CheckStop, Limit, NeedCards, NeedKeys}
@@ -20,6 +21,10 @@ trial_modules = 1
 -- a trial runs for so many steps at most
 abbrev pub trial_limit : ℕ
 trial_limit = 1000000
+
+-- the settings of its run: its own limit, and a self-loading deck
+abbrev pub trial_settings : Settings → Settings
+trial_settings settings = record settings { limit = trial_limit; form = SelfLoading }
 
 -- the steps that a status counts
 abbrev pub steps_of : Status → Option ℕ
@@ -58,21 +63,21 @@ with_trial statements number cards c = record {
 }
 
 -- what is done for the source that was made, where it breaks no rule
-abbrev pub tried_promise : ℕ → ℕ → List ℕ → World → Promise
-tried_promise statements number source w =
-    let run = turned_promise trial_modules SelfLoading trial_limit [] source w in
-    with_trial statements number (card_count trial_modules SelfLoading source) run
+abbrev pub tried_promise : Settings → List ℕ → World → Promise
+tried_promise settings source w =
+    let run = turned_promise trial_modules (trial_settings settings) [] source w in
+    with_trial settings.statements settings.number (card_count trial_modules SelfLoading source) run
 
 -- THE PROMISE OF A TRIAL, from the world in which its files are bound
-abbrev pub trial_promise : ℕ → ℕ → World → Promise
-trial_promise statements number w =
-    assembly_promise trial_modules (running_promise trial_modules (tried_promise statements number)) (source_deck statements number) w
+abbrev pub trial_promise : Settings → World → Promise
+trial_promise settings w =
+    assembly_promise trial_modules (running_promise trial_modules (tried_promise settings))
+    (source_deck settings.statements settings.number) w
 
 -- What the functions of this job answer.
 
-abbrev pub TriesAssembled : ℕ → ℕ → List ℕ → Seen → Seen → Answer → Type 0
-TriesAssembled statements number source old new answer =
-    KeepsPromise (tried_promise statements number source old.world) old new answer
+abbrev pub TriesAssembled : Settings → List ℕ → Seen → Seen → Answer → Type 0
+TriesAssembled settings source old new answer = KeepsPromise (tried_promise settings source old.world) old new answer
 
-abbrev pub TriesSource : ℕ → ℕ → Seen → Seen → Answer → Type 0
-TriesSource statements number old new answer = KeepsPromise (trial_promise statements number old.world) old new answer
+abbrev pub TriesSource : Settings → Seen → Seen → Answer → Type 0
+TriesSource settings old new answer = KeepsPromise (trial_promise settings old.world) old new answer

@@ -9,7 +9,7 @@ use crate::answer::Answer;
 use crate::report::report;
 use crate::source::{SoundSource, read_source, write_source};
 use crate::status::Status;
-use deck_punch::DeckForm;
+use command_line::Settings;
 use outside_io::Host;
 use sps_pass_two::Assembled;
 use std::alloc::Global;
@@ -18,14 +18,14 @@ use std::alloc::Global;
 pub(crate) fn assemble_source<const M: u32, H: Host>(
     alloc: Global,
     host: &mut H,
-    form: DeckForm,
+    settings: Settings,
 ) -> Answer
     requires size { IsSize M }
-    ensures promise { AssemblyPromise M form (H.seen host.old) (H.seen host.new) result }
+    ensures promise { AssemblyPromise M settings (H.seen host.old) (H.seen host.new) result }
     ensures stays { Stays reads_source (H.seen host.old).world (H.seen host.new).world }
 {
     match read_source::<M, H>(alloc, host) {
-        Ok(sound) => write_assembled::<M, H>(alloc, host, &sound, form),
+        Ok(sound) => write_assembled::<M, H>(alloc, host, &sound, settings),
         Err(answer) => answer,
     }
 }
@@ -35,14 +35,14 @@ fn write_assembled<const M: u32, H: Host>(
     alloc: Global,
     host: &mut H,
     sound: &SoundSource,
-    form: DeckForm,
+    settings: Settings,
 ) -> Answer
     requires size { IsSize M }
     requires is { IsSound M sound.now }
-    ensures promise { WrittenPromise M form sound.now.source.items (H.seen host.old) (H.seen host.new) result }
+    ensures promise { WrittenPromise M settings sound.now.source.items (H.seen host.old) (H.seen host.new) result }
     ensures stays { Stays reads_nothing (H.seen host.old).world (H.seen host.new).world }
 {
-    match write_source::<M, H>(alloc, host, sound, form) {
+    match write_source::<M, H>(alloc, host, sound, settings.form) {
         Ok(cards) => {
             let status = status_of(&sound.assembled, cards.len() as u32);
             Answer::of(report(host, status))

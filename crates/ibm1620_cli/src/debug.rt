@@ -12,11 +12,11 @@ use crate::answer::Answer;
 use crate::load::read_script;
 use crate::reading::read_text;
 use crate::report::report;
-use crate::settings::Settings;
 use crate::source::{SoundSource, read_source, write_source};
 use crate::standing::with_statement;
 use crate::status::Status;
 use card_unit::Hopper;
+use command_line::Settings;
 use console_debug::{CommandFault, Commands, SessionEnd, session};
 use cpu_step::{Machine, Turned};
 use digit_core::MODULE;
@@ -43,7 +43,7 @@ pub(crate) fn debug_source<const M: u32, H: Host>(
     settings: Settings,
 ) -> Answer
     requires size { IsSize M }
-    ensures promise { DebugsSource M settings.form settings.limit (H.seen host.old) (H.seen host.new) result }
+    ensures promise { DebugsSource M settings (H.seen host.old) (H.seen host.new) result }
     ensures stays { Stays debug_reads (H.seen host.old).world (H.seen host.new).world }
 {
     match read_script::<M, H>(alloc, host) {
@@ -61,7 +61,7 @@ fn debug_under<const M: u32, H: Host>(
 ) -> Answer
     requires size { IsSize M }
     requires lines { All (IsLine (size M)) (lines_left script) }
-    ensures promise { DebugsUnder M settings.form settings.limit script
+    ensures promise { DebugsUnder M settings script
         (H.seen host.old) (H.seen host.new) result }
     ensures stays { Stays reads_session (H.seen host.old).world (H.seen host.new).world }
 {
@@ -98,7 +98,7 @@ fn debug_by<const M: u32, H: Host>(
     requires size { IsSize M }
     requires lines { All (IsLine (size M)) (lines_left script) }
     requires ready { AreReady M commands }
-    ensures promise { DebugsBy M settings.form settings.limit script commands
+    ensures promise { DebugsBy M settings script commands
         (H.seen host.old) (H.seen host.new) result }
     ensures stays { Stays reads_program (H.seen host.old).world (H.seen host.new).world }
 {
@@ -125,7 +125,7 @@ fn debug_assembled<const M: u32, H: Host>(
     requires is { IsSound M sound.now }
     requires lines { All (IsLine (size M)) (lines_left script) }
     requires ready { AreReady M commands }
-    ensures promise { DebugsAssembled M settings.form settings.limit script commands sound.now.source.items
+    ensures promise { DebugsAssembled M settings script commands sound.now.source.items
         (H.seen host.old) (H.seen host.new) result }
     ensures stays { Stays reads_feed (H.seen host.old).world (H.seen host.new).world }
 {

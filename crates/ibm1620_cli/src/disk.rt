@@ -1,4 +1,5 @@
 // The job disk: the source is read and assembled, its bootstrap deck and its image are written, and then its sectors.
+// Source: this project's own.
 ghost use Rattle.std.specs.Prelude.{◌≡◌};
 ghost use Rattle.digit_core.specs.Size.{IsSize, size};
 ghost use Rattle.ibm1620_cli.specs.DiskJob.{DiskPromise, PlacingPromise, PlacingLaw, placing_events, placing_with};
@@ -8,8 +9,9 @@ ghost use Rattle.ibm1620_cli.specs.Inputs.{placing_reads, reads_pack};
 
 use crate::answer::Answer;
 use crate::report::report;
-use crate::source::{SoundSource, deck_bytes, read_source};
+use crate::source::{SoundSource, read_source};
 use crate::status::Status;
+use deck_punch::deck_bytes;
 use disk_loader::{bootstrap, sector_count, write_sectors};
 use outside_io::{Host, Sent, Unit, write_all};
 use sps_listing::image_text;
@@ -82,7 +84,6 @@ fn write_placed<H: Host>(host: &mut H, object: &[u8], assembled: &Assembled) -> 
 /// Take any deck, any image, any sectors and any report line, and whatever first part of them is written: the deck first, then the image,
 /// the sectors and the line. If a sector is not as it was, Object has the whole deck and Image the whole image; if a byte was reported, all
 /// sectors are written besides. The call does nothing; the law is its contract.
-/// Source: this project's own.
 pub fn placing_law()
     ensures { PlacingLaw }
 {}
@@ -97,7 +98,6 @@ pub fn placing_law()
 /// where the turns from there end, with that many steps more counted, and takes the cards of the deck and then does outside what they do,
 /// thing by thing, and nothing else. That place is where `run` begins, but for the arm of drive 1; in a core of 20,000 positions it is the
 /// very same. The call does nothing; the law is its contract.
-/// Source: this project's own.
 pub fn disk_trip_law()
     ensures { DiskRoundTripLaw }
 {}

@@ -19,7 +19,6 @@ mod program;
 mod reading;
 mod report;
 mod run;
-mod settings;
 mod source;
 mod standing;
 mod status;

@@ -12,6 +12,7 @@ use crate::reading::read_text;
 use crate::report::report;
 use crate::status::Status;
 use card_unit::Hopper;
+use command_line::Settings;
 use digit_core::MODULE;
 use operator_script::{Script, ScriptFault};
 use outside_io::{Host, Unit};
@@ -21,13 +22,13 @@ use std::alloc::Global;
 const LONGEST_SCRIPT: usize = 1_000_000;
 
 // Reads the script, loads the deck and runs the machine.
-pub(crate) fn load<const M: u32, H: Host>(alloc: Global, host: &mut H, limit: u64) -> Answer
+pub(crate) fn load<const M: u32, H: Host>(alloc: Global, host: &mut H, settings: Settings) -> Answer
     requires size { IsSize M }
-    ensures promise { LoadPromise M limit (H.seen host.old) (H.seen host.new) result }
+    ensures promise { LoadPromise M settings (H.seen host.old) (H.seen host.new) result }
     ensures stays { Stays load_reads (H.seen host.old).world (H.seen host.new).world }
 {
     match read_script::<M, H>(alloc, host) {
-        Ok(script) => load_deck::<M, H>(alloc, host, script, limit),
+        Ok(script) => load_deck::<M, H>(alloc, host, script, settings),
         Err(status) => Answer::of(report(host, status)),
     }
 }
@@ -56,12 +57,12 @@ fn load_deck<const M: u32, H: Host>(
     alloc: Global,
     host: &mut H,
     script: Script,
-    limit: u64,
+    settings: Settings,
 ) -> Answer
     requires size { IsSize M }
     requires lines { All (IsLine (size M)) (lines_left script) }
-    ensures promise { LoadedPromise M limit script (H.seen host.old) (H.seen host.new) result }
+    ensures promise { LoadedPromise M settings script (H.seen host.old) (H.seen host.new) result }
     ensures stays { Stays reads_feed (H.seen host.old).world (H.seen host.new).world }
 {
-    execute::<M, H>(alloc, host, Hopper::of_units(), 0, script, limit)
+    execute::<M, H>(alloc, host, Hopper::of_units(), 0, script, settings.limit)
 }

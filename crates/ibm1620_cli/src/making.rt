@@ -8,22 +8,19 @@ ghost use Rattle.ibm1620_cli.specs.Parts.{Stays};
 use crate::answer::Answer;
 use crate::report::report;
 use crate::status::Status;
+use command_line::Settings;
 use outside_io::{Host, Sent, Unit, write_all};
 use sps_generator::generate;
 use std::alloc::Global;
 
 // Makes a source of so many statements by a number, writes it, and reports how many they are.
-pub(crate) fn make_source<H: Host>(
-    alloc: Global,
-    host: &mut H,
-    statements: u32,
-    number: u32,
-) -> Answer
-    requires fits { AreNumbers statements number }
-    ensures promise { MakesSource statements number (H.seen host.old) (H.seen host.new) result }
+pub(crate) fn make_source<H: Host>(alloc: Global, host: &mut H, settings: Settings) -> Answer
+    requires fits { AreNumbers settings.statements settings.number }
+    ensures promise { MakesSource settings (H.seen host.old) (H.seen host.new) result }
     ensures stays { Stays reads_nothing (H.seen host.old).world (H.seen host.new).world }
 {
-    let source = match generate(alloc, statements, number) {
+    let statements = settings.statements;
+    let source = match generate(alloc, statements, settings.number) {
         Ok(source) => source,
         Err(_) => return Answer::of(Status::OutOfMemory),
     };

@@ -1,4 +1,5 @@
 // A program's deck is loaded, and the turns begin at its first instruction.
+// Source: this project's own.
 ghost use Rattle.std.specs.Prelude.{◌≡◌, ◌≤◌, length, All};
 ghost use Rattle.digit_core.specs.Size.{IsSize, size};
 ghost use Rattle.operator_script.specs.Scripts.{IsLine, lines_left};
@@ -11,16 +12,16 @@ ghost use Rattle.ibm1620_cli.specs.Inputs.{reads_feed};
 
 use crate::answer::Answer;
 use crate::execute::execute;
-use crate::settings::Settings;
 use card_code::Card;
 use card_unit::Hopper;
+use command_line::Settings;
 use loader_cards::deck_steps;
 use operator_script::Script;
 use outside_io::Host;
 use std::alloc::Global;
 
-// Loads a program's deck, whose cards these are and which has this form, takes the turns under the script from the program's first
-// instruction on, and reports.
+// Loads a program's deck, whose cards these are and which has the form of the settings, takes the turns under the script from the
+// program's first instruction on, and reports.
 pub(crate) fn run_program<const M: u32, H: Host>(
     alloc: Global,
     host: &mut H,
@@ -32,7 +33,7 @@ pub(crate) fn run_program<const M: u32, H: Host>(
     requires some { fewest_in settings.form ≤ length cards.items }
     requires most { length cards.items ≤ 100000 }
     requires lines { All (IsLine (size M)) (lines_left script) }
-    ensures promise { ProgramPromise M settings.form settings.limit cards script
+    ensures promise { ProgramPromise M settings cards script
         (H.seen host.old) (H.seen host.new) result }
     ensures stays { Stays reads_feed (H.seen host.old).world (H.seen host.new).world }
     ensures later { (H.seen host.old).faults ≤ (H.seen host.new).faults }
@@ -61,7 +62,6 @@ pub(crate) fn run_program<const M: u32, H: Host>(
 /// the status with its count of steps, and all that is done outside, thing by thing: the cards of the deck are taken, and then comes each
 /// byte that is punched, typed or reported, each sector that is written, and each card and each line of Keys that is taken. The call does
 /// nothing; the law is its contract.
-/// Source: this project's own.
 pub fn headline_law()
     ensures { HeadlineLaw }
 {}
@@ -74,7 +74,6 @@ pub fn headline_law()
 /// job, and as it was asked last it gave as many bytes as the last of these lines has with its LF, as a terminal gives one line at a time.
 /// Then all these lines are in the part that was done, and with them all that stands in front of the last of them, as the text that a
 /// program types before it reads. The call does nothing; the law is its contract.
-/// Source: this project's own.
 pub fn prompt_law()
     ensures { PromptLaw }
 {}
@@ -88,7 +87,6 @@ pub fn prompt_law()
 /// load ends where the run ends, with that many steps more counted; and it takes the cards of the deck, and then punches, types, writes to
 /// the pack and takes of cards and of Keys what the run does from there, thing by thing, and nothing else. The call does nothing; the law is
 /// its contract.
-/// Source: this project's own.
 pub fn trip_law()
     ensures { RoundTripLaw }
 {}

@@ -10,9 +10,9 @@ use crate::answer::Answer;
 use crate::load::read_script;
 use crate::program::run_program;
 use crate::report::report;
-use crate::settings::Settings;
 use crate::source::{SoundSource, read_source, write_source};
 use crate::standing::with_statement;
+use command_line::Settings;
 use operator_script::Script;
 use outside_io::Host;
 use std::alloc::Global;
@@ -24,7 +24,7 @@ pub(crate) fn run_source<const M: u32, H: Host>(
     settings: Settings,
 ) -> Answer
     requires size { IsSize M }
-    ensures promise { RunPromise M settings.form settings.limit (H.seen host.old) (H.seen host.new) result }
+    ensures promise { RunPromise M settings (H.seen host.old) (H.seen host.new) result }
     ensures stays { Stays run_reads (H.seen host.old).world (H.seen host.new).world }
 {
     match read_script::<M, H>(alloc, host) {
@@ -42,7 +42,7 @@ fn run_under<const M: u32, H: Host>(
 ) -> Answer
     requires size { IsSize M }
     requires lines { All (IsLine (size M)) (lines_left script) }
-    ensures promise { ScriptPromise M settings.form settings.limit script
+    ensures promise { ScriptPromise M settings script
         (H.seen host.old) (H.seen host.new) result }
     ensures stays { Stays reads_program (H.seen host.old).world (H.seen host.new).world }
 {
@@ -66,7 +66,7 @@ fn run_assembled<const M: u32, H: Host>(
     requires size { IsSize M }
     requires is { IsSound M sound.now }
     requires lines { All (IsLine (size M)) (lines_left script) }
-    ensures promise { TurnedPromise M settings.form settings.limit script sound.now.source.items
+    ensures promise { TurnedPromise M settings script sound.now.source.items
         (H.seen host.old) (H.seen host.new) result }
     ensures stays { Stays reads_feed (H.seen host.old).world (H.seen host.new).world }
 {

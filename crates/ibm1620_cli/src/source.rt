@@ -1,8 +1,6 @@
 // The source is read and assembled, and its texts are written.
-ghost use Rattle.std.specs.Prelude.{◌≡◌, map, IfOk};
 ghost use Rattle.digit_core.specs.Size.{IsSize};
-ghost use Rattle.card_columns.specs.Types.{card_bytes};
-ghost use Rattle.ibm1620_cli.specs.Source.{deck_text, made_events};
+ghost use Rattle.ibm1620_cli.specs.Source.{made_events};
 ghost use Rattle.ibm1620_cli.specs.Inputs.{reads_nothing};
 ghost use Rattle.ibm1620_cli.specs.Parts.{IsSound, ReadsSource, AssemblesOrRefuses, RefusesOrLacks, made_with, EventsOccur, WritesSource, Stays};
 
@@ -11,7 +9,7 @@ use crate::reading::read_text;
 use crate::report::report;
 use crate::status::Status;
 use card_code::Card;
-use deck_punch::DeckForm;
+use deck_punch::{DeckForm, deck_bytes};
 use digit_core::MODULE;
 use loader_cards::object_deck;
 use outside_io::{Host, Sent, Unit, write_all};
@@ -115,18 +113,6 @@ pub(crate) fn write_source<const M: u32, H: Host>(
         Sent::Done => Ok(cards),
         Sent::Failed => Err(Status::HostFault),
     }
-}
-
-// The text of a deck: a line for each card.
-pub(crate) fn deck_bytes(alloc: Global, cards: &[Card]) -> Result<Vec<u8>, AllocError>
-    ensures { IfOk result (λ bytes. bytes.items ≡ deck_text (map card_bytes cards.now)) }
-{
-    let mut bytes = Vec::new(alloc);
-    for card in cards {
-        bytes.extend_from_slice(&card.0)?;
-        bytes.push(b'\n')?;
-    }
-    Ok(bytes)
 }
 
 // Writes the object deck, then the image, and then the listing.

@@ -1,4 +1,5 @@
 // How a call of the program ends.
+// Source: this project's own.
 ghost use Rattle.std.specs.Prelude.{◌≡◌};
 ghost use Rattle.ibm1620_cli.specs.Report.{assembled_line, code_of, placed_line, report_line};
 
@@ -13,8 +14,6 @@ use sps_listing::short_refusal_line;
 use sps_ops::Rule;
 
 /// How a call of the program ends.
-///
-/// Source: this project's own.
 #[derive(Clone, Copy, Debug, PartialEq, Eq)]
 pub enum Status {
     /// Code 0: the machine halted.
@@ -114,8 +113,6 @@ pub enum Status {
 
 impl Status {
     /// The code that the program ends with, 0 to 13.
-    ///
-    /// Source: this project's own.
     pub fn code(&self) -> u8
         ensures { result ≡ code_of self.now }
     {
@@ -142,8 +139,6 @@ impl Status {
 
     /// The report line, with its LF; it is empty where nothing is reported, after a fault of the host and for want of memory. That of a
     /// refusal has the statement and the rule; what the refusal shows of the statement stands on Report alone.
-    ///
-    /// Source: this project's own.
     pub fn line(&self) -> ArrayString<LONGEST_LINE>
         ensures { result.bytes ≡ report_line self.now }
     {

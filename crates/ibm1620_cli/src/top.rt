@@ -1,4 +1,5 @@
 // The whole program over any host.
+// Source: this project's own.
 ghost use Rattle.std.specs.Prelude.{◌≡◌};
 ghost use Rattle.digit_core.specs.Size.{IsSize};
 ghost use Rattle.outside_io.specs.World.{IsFresh, IsFree};
@@ -18,7 +19,6 @@ use crate::load::load;
 use crate::making::make_source;
 use crate::report::report;
 use crate::run::run_source;
-use crate::settings::Settings;
 use crate::status::Status;
 use crate::trial::try_source;
 use command_line::{Command, CoreSize, Plain, plain_words};
@@ -120,7 +120,6 @@ use std::alloc::{AllocError, Global};
 /// memory may lack before any file is bound, and then nothing at all was done. The units in use are those up to one in the order of units
 /// that the words name a file for, each bound to that very name: all of them, where the answer is no `HostFault`; none, where memory was
 /// lacking for the words.
-/// Source: this project's own.
 pub fn ibm1620_answer<H: Host>(alloc: Global, words: &[String], host: &mut H) -> Answer
     requires { IsFresh (H.seen host.old).world }
     ensures told { Tells (word_bytes words.now) (H.seen host.old) (H.seen host.new) result }
@@ -143,7 +142,6 @@ pub fn ibm1620_answer<H: Host>(alloc: Global, words: &[String], host: &mut H) ->
 /// is done.
 ///
 /// No unit of the host is in use, and no output has been given a byte.
-/// Source: this project's own.
 pub fn ibm1620<H: Host>(alloc: Global, words: &[String], host: &mut H) -> Status
     requires { IsFresh (H.seen host.old).world }
     ensures told { IsStatusOf result (Tells (word_bytes words.now) (H.seen host.old) (H.seen host.new)) }
@@ -190,17 +188,14 @@ fn do_job_in<const M: u32, H: Host>(alloc: Global, host: &mut H, plain: Plain<'_
     ensures told { DoesJobIn M (meaning_of plain.entry) (H.seen host.old) (H.seen host.new) result }
     ensures stays { Stays (reads (meaning_of plain.entry).command) (H.seen host.old).world (H.seen host.new).world }
 {
-    let settings = Settings {
-        limit: plain.limit,
-        form: plain.form,
-    };
+    let settings = plain.settings;
     match plain.command {
-        Command::Assemble => assemble_source::<M, H>(alloc, host, settings.form),
-        Command::Load => load::<M, H>(alloc, host, settings.limit),
+        Command::Assemble => assemble_source::<M, H>(alloc, host, settings),
+        Command::Load => load::<M, H>(alloc, host, settings),
         Command::Run => run_source::<M, H>(alloc, host, settings),
         Command::Debug => debug_source::<M, H>(alloc, host, settings),
-        Command::Generate => make_source(alloc, host, plain.statements, plain.number),
-        Command::Trial => try_source(alloc, host, plain.statements, plain.number),
+        Command::Generate => make_source(alloc, host, settings),
+        Command::Trial => try_source(alloc, host, settings),
         Command::Disk => place_source::<M, H>(alloc, host),
     }
 }

@@ -9,12 +9,11 @@ ghost use Rattle.ibm1620_cli.specs.Parts.{IsSound, ReportsTrial, Stays};
 use crate::answer::Answer;
 use crate::execute::no_script;
 use crate::program::run_program;
-use crate::settings::Settings;
 use crate::source::{SoundSource, assemble_or_refuse, write_source};
 use crate::standing::with_statement;
 use crate::status::Status;
 use arrayvec::ArrayString;
-use command_line::STANDARD_LIMIT;
+use command_line::{STANDARD_LIMIT, Settings};
 use deck_punch::DeckForm;
 use outside_io::{Host, Sent, Unit, write_all};
 use report_lines::{LONGEST_LINE, push_count, push_number};
@@ -25,23 +24,18 @@ use std::alloc::Global;
 const TRIAL_LIMIT: u64 = STANDARD_LIMIT;
 
 // Makes a source of so many statements by a number, assembles it, runs its program, and answers with the statement at IR.
-pub(crate) fn try_source<H: Host>(
-    alloc: Global,
-    host: &mut H,
-    statements: u32,
-    number: u32,
-) -> Answer
-    requires fits { AreNumbers statements number }
-    ensures promise { TriesSource statements number (H.seen host.old) (H.seen host.new) result }
+pub(crate) fn try_source<H: Host>(alloc: Global, host: &mut H, settings: Settings) -> Answer
+    requires fits { AreNumbers settings.statements settings.number }
+    ensures promise { TriesSource settings (H.seen host.old) (H.seen host.new) result }
     ensures stays { Stays reads_feed (H.seen host.old).world (H.seen host.new).world }
 {
-    let source = match generate(alloc, statements, number) {
+    let source = match generate(alloc, settings.statements, settings.number) {
         Ok(source) => source,
         Err(_) => return Answer::of(Status::OutOfMemory),
     };
     match assemble_or_refuse::<1, H>(alloc, host, source) {
         Ok(sound) => {
-            let answer = try_assembled(alloc, host, &sound, statements, number);
+            let answer = try_assembled(alloc, host, &sound, settings);
             with_statement(&sound, answer)
         }
         Err(answer) => answer,
@@ -53,11 +47,10 @@ fn try_assembled<H: Host>(
     alloc: Global,
     host: &mut H,
     sound: &SoundSource,
-    statements: u32,
-    number: u32,
+    settings: Settings,
 ) -> Answer
     requires is { IsSound trial_modules sound.now }
-    ensures promise { TriesAssembled statements number sound.now.source.items
+    ensures promise { TriesAssembled settings sound.now.source.items
         (H.seen host.old) (H.seen host.new) result }
     ensures stays { Stays reads_feed (H.seen host.old).world (H.seen host.new).world }
 {
@@ -65,15 +58,16 @@ fn try_assembled<H: Host>(
         Ok(script) => script,
         Err(_) => return Answer::of(Status::OutOfMemory),
     };
-    let settings = Settings {
+    let run = Settings {
         limit: TRIAL_LIMIT,
         form: DeckForm::SelfLoading,
+        ..settings
     };
-    match write_source::<1, H>(alloc, host, sound, settings.form) {
+    match write_source::<1, H>(alloc, host, sound, run.form) {
         Ok(cards) => {
             let count = cards.len() as u32;
-            let ran = run_program::<1, H>(alloc, host, cards, script, settings);
-            let status = report_trial(host, ran.status, statements, number, count);
+            let ran = run_program::<1, H>(alloc, host, cards, script, run);
+            let status = report_trial(host, ran.status, settings, count);
             Answer { status, ..ran }
         }
         Err(status) => Answer::of(status),
@@ -81,20 +75,14 @@ fn try_assembled<H: Host>(
 }
 
 // Adds the line of a trial behind the report line of a status that counts steps.
-fn report_trial<H: Host>(
-    host: &mut H,
-    status: Status,
-    statements: u32,
-    number: u32,
-    cards: u32,
-) -> Status
-    ensures { ReportsTrial statements number cards
+fn report_trial<H: Host>(host: &mut H, status: Status, settings: Settings, cards: u32) -> Status
+    ensures { ReportsTrial settings.statements settings.number cards
         (H.seen host.old) (H.seen host.new) status result }
 {
     let Some(steps) = steps_of(status) else {
         return status;
     };
-    let line = trial_line(statements, number, cards, steps);
+    let line = trial_line(settings.statements, settings.number, cards, steps);
     match write_all(host, Unit::Report, line.as_bytes()) {
         Sent::Done => status,
         Sent::Failed => Status::HostFault,

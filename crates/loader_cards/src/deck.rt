@@ -1,4 +1,5 @@
 // The object deck of a program.
+// Source: this project's own.
 ghost use Rattle.std.specs.Prelude.{◌≡◌, ◌+◌, ◌≤◌, ◌++◌, ◌∷◌, [], length, map, IfOk, OnOk};
 ghost use Rattle.digit_core.specs.declared.TheConstants.{MOST_POSITIONS};
 ghost use Rattle.sps_pass_two.specs.Kept.{IsImage};
@@ -29,7 +30,6 @@ use std::alloc::{AllocError, Global};
 /// of a self-loading deck are one for each segment of the tables, 31 where the image declares none of their addresses, one for each segment of
 /// the other pieces, and the transfer card. Those of a dense deck are the loader card, one for each dense segment of the other pieces, the
 /// bridge card, those of the tables, and the transfer card. They are never more than 100,000. The error is want of memory.
-/// Source: this project's own.
 pub fn object_deck(
     alloc: Global,
     assembled: &Assembled,
@@ -100,7 +100,6 @@ fn punch(alloc: Global, cards: &mut Vec<Card>, image: &Image) -> Result<(), Allo
 /// In a self-loading deck four for each card but the last, whose one step is the jump to the start. In a dense deck four for each card but
 /// the loader card and the last, two more behind the bridge card, and the jump. The Load key itself, which reads the first card, is no step.
 /// `cards` is all cards of the deck and none of the data: 1 to 100,000, and in a dense deck 3 at least.
-/// Source: this project's own.
 pub fn deck_steps(cards: u64, form: DeckForm) -> u64
     requires some { fewest_in form ≤ cards }
     requires most { cards ≤ 100000 }

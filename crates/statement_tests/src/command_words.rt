@@ -28,7 +28,7 @@ fn plain_words_name_files_and_numbers(rt: HostRuntime) -> Result<(), Fail> {
     let words = words_from(rt.alloc(), &texts)?;
     let plain = plain_words(rt.alloc(), &words)?.ok_or("not plain")?;
     assert!(rt; matches!(plain.command, Command::Load));
-    assert!(rt; plain.limit == 5);
+    assert!(rt; plain.settings.limit == 5);
     assert!(rt; plain.names.get(Unit::Deck) == Some("one.txt"));
     assert!(rt; plain.names.get(Unit::Typed) == Some("typed.txt"));
     assert!(rt; plain.names.get(Unit::Data).is_none());
@@ -42,14 +42,14 @@ fn words_give_a_limit_or_the_standard_one_holds(rt: HostRuntime) -> Result<(), F
     let words = words_from(rt.alloc(), &["run", "--source", "payroll.txt"])?;
     let plain = plain_words(rt.alloc(), &words)?.ok_or("not plain")?;
     assert!(rt; matches!(plain.command, Command::Run));
-    assert!(rt; plain.limit == 1_000_000);
+    assert!(rt; plain.settings.limit == 1_000_000);
     let words = words_from(
         rt.alloc(),
         &["trial", "--number", "999999", "--statements", "1600"],
     )?;
     let plain = plain_words(rt.alloc(), &words)?.ok_or("not plain")?;
     assert!(rt; matches!(plain.command, Command::Trial));
-    assert!(rt; (plain.statements, plain.number) == (1600, 999_999));
+    assert!(rt; (plain.settings.statements, plain.settings.number) == (1600, 999_999));
     Ok(())
 }
 
@@ -72,7 +72,7 @@ fn a_deck_has_the_form_of_the_words(rt: HostRuntime) -> Result<(), Fail> {
     ] {
         let words = words_from(rt.alloc(), &texts)?;
         let plain = plain_words(rt.alloc(), &words)?.ok_or("not plain")?;
-        assert!(rt; plain.form == form);
+        assert!(rt; plain.settings.form == form);
     }
     Ok(())
 }

@@ -5,7 +5,7 @@ use Rattle.command_line.specs.Given.{values_in}
 use Rattle.command_line.specs.Reading.{Values}
 use Rattle.command_line.specs.Words.{setting, with_new}
 use Rattle.command_line.proofs.Maps.{texts_in}
-use Rattle.command_line.proofs.Settings.{collected_end, collected_odd, if_required, refused_two, set_once, words_collected, words_make}
+use Rattle.command_line.proofs.SettingWords.{collected_end, collected_odd, if_required, refused_two, set_once, words_collected, words_make}
 use Rattle.command_line.proofs.grammar.values_of.Goals as goal
 
 pub loop-rest-init : goal.loop-rest-init

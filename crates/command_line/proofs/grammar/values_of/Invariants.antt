@@ -2,7 +2,7 @@ use Rattle.std.proofs.Common.{◌≡◌, map, string_bytes, length}
 use Rattle.command_line.specs.declared.options.TheConstants.{SLOT_COUNT}
 use Rattle.command_line.specs.Words.{values_in_words}
 use Rattle.command_line.proofs.Maps.{texts_in}
-use Rattle.command_line.proofs.Settings.{if_required, words_collected}
+use Rattle.command_line.proofs.SettingWords.{if_required, words_collected}
 use Rattle.command_line.proofs.grammar.values_of.Given as goal
 
 abbrev pub invariant-loop-rest : goal.invariant-loop-rest

@@ -20,7 +20,7 @@ use Rattle.ibm1620_cli.proofs.debug.debug_assembled.Goals as goal
 pub returns-in-Ok-clause-promise : goal.returns-in-Ok-clause-promise
 returns-in-Ok-clause-promise g c =
     let made = made_of g.row.M c.args.settings.form c.args.sound.now.source.items in
-    promise_debug_behind g.row.M c.args.settings.form c.args.settings.limit (lines_left c.args.script) (command_list c.args.commands) c.args.sound.now.source.items (g.H.Host.seen c.args.host.now) (g.H.Host.seen c.write_source.new.host) (g.H.Host.seen c.hold_session.new.host) c.hold_session.result c.in-Ok.ensures.does.0
+    promise_debug_behind g.row.M c.args.settings (lines_left c.args.script) (command_list c.args.commands) c.args.sound.now.source.items (g.H.Host.seen c.args.host.now) (g.H.Host.seen c.write_source.new.host) (g.H.Host.seen c.hold_session.new.host) c.hold_session.result c.in-Ok.ensures.does.0
     (promise_holds (made_events made) c.args.settings.limit _ (program_of g.row.M c.args.settings.form c.args.sound.now.source.items) c.of_cards.result c.args.script c.args.commands (g.H.Host.seen c.args.host.now) (g.H.Host.seen c.write_source.new.host) c.in-Ok.ensures.does.0.later
     (same_of (g.H.Host.seen c.write_source.new.host).world (after_events (g.H.Host.seen c.args.host.now).world (made_events made)) c.in-Ok.ensures.does.0.world) (goes_unasked (made_events made) (g.H.Host.seen c.args.host.now) (g.H.Host.seen c.write_source.new.host) c.in-Ok.ensures.does.0) (makings_of made)
     (λ w. c.of_cards.ensures.left w ∙ ap (λ (texts : List (List ℕ)). cards_and_data texts w) c.in-Ok.ensures.does.1.are)
@@ -31,7 +31,7 @@ returns-in-Ok-clause-promise g c =
 pub returns-in-Err-clause-promise : goal.returns-in-Err-clause-promise
 returns-in-Err-clause-promise g c =
     rw c.of.ensures
-    (promise_debug_unwritten g.row.M c.args.settings.form c.args.settings.limit (lines_left c.args.script) (command_list c.args.commands) c.args.sound.now.source.items (g.H.Host.seen c.args.host.now) (g.H.Host.seen c.write_source.new.host) c.in-Err.status c.in-Err.ensures.does)
+    (promise_debug_unwritten g.row.M c.args.settings (lines_left c.args.script) (command_list c.args.commands) c.args.sound.now.source.items (g.H.Host.seen c.args.host.now) (g.H.Host.seen c.write_source.new.host) c.in-Err.status c.in-Err.ensures.does)
 
 pub returns-in-Ok-clause-stays : goal.returns-in-Ok-clause-stays
 returns-in-Ok-clause-stays g c = stays_again (g.H.Host.seen c.args.host.now).world (g.H.Host.seen c.write_source.new.host).world (g.H.Host.seen c.hold_session.new.host).world (stays_none reads_feed (g.H.Host.seen c.args.host.now).world (g.H.Host.seen c.write_source.new.host).world c.in-Ok.ensures.stays) (session_stays g.row.M c.args.settings.limit _ c.of_cards.result c.args.script c.args.commands (g.H.Host.seen c.write_source.new.host) (g.H.Host.seen c.hold_session.new.host) c.hold_session.result c.hold_session.ensures)

@@ -5,7 +5,7 @@ use Rattle.outside_io.specs.Events.{after_events}
 use Rattle.card_columns.specs.Types.{card_bytes}
 use Rattle.disk_loader.specs.Bootstrap.{bootstrap}
 use Rattle.ibm1620_cli.specs.declared.status.Status.{Status}
-use Rattle.ibm1620_cli.specs.Source.{deck_text}
+use Rattle.deck_punch.specs.DeckText.{deck_text}
 use Rattle.ibm1620_cli.specs.Parts.{Reports, StopsWithin}
 use Rattle.ibm1620_cli.specs.DiskJob.{Placing, placing_events}
 use Rattle.ibm1620_cli.proofs.Placings.{placed_is, placing_is, promise_placed, promise_placed_stops}

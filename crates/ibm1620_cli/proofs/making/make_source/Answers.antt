@@ -9,18 +9,18 @@ use Rattle.ibm1620_cli.proofs.Kept.{added_stays, report_stays, stays_on, stays_s
 use Rattle.ibm1620_cli.proofs.making.make_source.Goals as goal
 
 pub returns-in-Err-clause-promise : goal.returns-in-Err-clause-promise
-returns-in-Err-clause-promise g c = rw c.of.ensures (making_lacks c.args.statements c.args.number (g.H.Host.seen c.args.host.now))
+returns-in-Err-clause-promise g c = rw c.of.ensures (making_lacks c.args.settings (g.H.Host.seen c.args.host.now))
 
 pub returns-in-Done-clause-promise : goal.returns-in-Done-clause-promise
 returns-in-Done-clause-promise g c =
     rw c.of-in-Done.ensures
-    (making_reports c.args.statements c.args.number (g.H.Host.seen c.args.host.now) (g.H.Host.seen c.write_all.new.host) (g.H.Host.seen c.report.new.host) c.report.result
+    (making_reports c.args.settings (g.H.Host.seen c.args.host.now) (g.H.Host.seen c.write_all.new.host) (g.H.Host.seen c.report.new.host) c.report.result
     (subst (λ (text : List ℕ). Goes (g.H.Host.seen c.args.host.now) (g.H.Host.seen c.write_all.new.host) (world_after_put Made text (g.H.Host.seen c.args.host.now).world)) (c.deref.ensures.value ∙ c.in-Ok.ensures) c.in-Done.ensures) c.report.ensures)
 
 pub returns-clause-promise : goal.returns-clause-promise
 returns-clause-promise g c =
     rw c.of-in-Failed.ensures
-    (making_stops c.args.statements c.args.number (g.H.Host.seen c.args.host.now) (g.H.Host.seen c.write_all.new.host)
+    (making_stops c.args.settings (g.H.Host.seen c.args.host.now) (g.H.Host.seen c.write_all.new.host)
     (subst (λ (text : List ℕ). Stops (g.H.Host.seen c.args.host.now) (g.H.Host.seen c.write_all.new.host) Made text) (c.deref.ensures.value ∙ c.in-Ok.ensures) c.in-Failed.ensures))
 
 pub returns-in-Err-clause-stays : goal.returns-in-Err-clause-stays

@@ -19,14 +19,14 @@ returns-in-Ok-clause-promise g c =
     let later = g.H.Host.seen c.read_script.new.host in
     let kept = c.run_under.ensures.promise in
     let takes = c.in-Ok.ensures.0 in
-    keeps_read Script refl (script_read g.row.M) (events_at g.row.M c.args.settings.form) (script_promise g.row.M c.args.settings.form c.args.settings.limit) start later (g.H.Host.seen c.run_under.new.host)
+    keeps_read Script refl (script_read g.row.M) (events_at g.row.M c.args.settings.form) (script_promise g.row.M c.args.settings) start later (g.H.Host.seen c.run_under.new.host)
     (tells_script start.world kept.texts (subst (λ (w : World). IfSome (w.left Commands) (λ (all : List ℕ). all ≡ kept.texts.commands)) takes.goes.world kept.told.commands) (subst (λ (w : World). IfSome (w.left Source) (λ (all : List ℕ). all ≡ kept.texts.source)) takes.goes.world kept.told.source)) (lines_left c.in-Ok.script) takes (world_with_texts kept.texts later.world)
-    (ap (λ (w : World). script_promise g.row.M c.args.settings.form c.args.settings.limit (lines_left c.in-Ok.script) (world_with_texts kept.texts w)) takes.goes.world ∙ run_apart g.row.M c.args.settings.form c.args.settings.limit (lines_left c.in-Ok.script) takes.gone takes.text kept.texts start.world) refl refl (λ P made. made) c.run_under.result kept.keeps
+    (ap (λ (w : World). script_promise g.row.M c.args.settings (lines_left c.in-Ok.script) (world_with_texts kept.texts w)) takes.goes.world ∙ run_apart g.row.M c.args.settings (lines_left c.in-Ok.script) takes.gone takes.text kept.texts start.world) refl refl (λ P made. made) c.run_under.result kept.keeps
 
 pub returns-in-Err-clause-promise : goal.returns-in-Err-clause-promise
 returns-in-Err-clause-promise g c =
     rw c.of.ensures
-    (promise_unread Script refl (script_read g.row.M) (events_at g.row.M c.args.settings.form) (script_promise g.row.M c.args.settings.form c.args.settings.limit) (g.H.Host.seen c.args.host.now) (g.H.Host.seen c.read_script.new.host) (g.H.Host.seen c.report.new.host) (script_alone (g.H.Host.seen c.args.host.now).world) c.in-Err.status (answer_of c.report.result) c.in-Err.ensures c.report.ensures (record { console = refl; refusal = refl; statement = refl }))
+    (promise_unread Script refl (script_read g.row.M) (events_at g.row.M c.args.settings.form) (script_promise g.row.M c.args.settings) (g.H.Host.seen c.args.host.now) (g.H.Host.seen c.read_script.new.host) (g.H.Host.seen c.report.new.host) (script_alone (g.H.Host.seen c.args.host.now).world) c.in-Err.status (answer_of c.report.result) c.in-Err.ensures c.report.ensures (record { console = refl; refusal = refl; statement = refl }))
 
 pub returns-in-Ok-clause-stays : goal.returns-in-Ok-clause-stays
 returns-in-Ok-clause-stays g c = read_then units.Script reads_program (g.H.Host.seen c.args.host.now) (g.H.Host.seen c.read_script.new.host) (g.H.Host.seen c.run_under.new.host) _ refl c.in-Ok.ensures.0 c.run_under.ensures.stays

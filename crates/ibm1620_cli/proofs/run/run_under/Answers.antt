@@ -12,19 +12,19 @@ use Rattle.ibm1620_cli.proofs.run.run_under.Goals as goal
 
 pub returns-in-Ok-clause-promise : goal.returns-in-Ok-clause-promise
 returns-in-Ok-clause-promise g c =
-    let next = turned_promise g.row.M c.args.settings.form c.args.settings.limit (lines_left c.args.script) in
+    let next = turned_promise g.row.M c.args.settings (lines_left c.args.script) in
     let later = g.H.Host.seen c.read_source.new.host in
     let new = g.H.Host.seen c.run_assembled-answer.new.host in
     promise_sound g.row.M (events_at g.row.M c.args.settings.form) (running_promise g.row.M next) c.in-Ok.sound.source.items
-    (running_follows g.row.M (events_at g.row.M c.args.settings.form) next c.in-Ok.sound.source.items (turned_follows g.row.M c.args.settings.form c.args.settings.limit (lines_left c.args.script) c.in-Ok.sound.source.items))
+    (running_follows g.row.M (events_at g.row.M c.args.settings.form) next c.in-Ok.sound.source.items (turned_follows g.row.M c.args.settings (lines_left c.args.script) c.in-Ok.sound.source.items))
     (g.H.Host.seen c.args.host.now) later new c.in-Ok.ensures.0 c.with_statement.result c.in-Ok.ensures.1.good
     (promise_ran g.row.M next c.in-Ok.sound later new c.run_assembled-answer.result c.with_statement.result c.in-Ok.ensures.1 c.with_statement.ensures c.run_assembled-answer.ensures.promise)
 
 pub returns-in-Err-clause-promise : goal.returns-in-Err-clause-promise
 returns-in-Err-clause-promise g c =
-    let next = turned_promise g.row.M c.args.settings.form c.args.settings.limit (lines_left c.args.script) in
+    let next = turned_promise g.row.M c.args.settings (lines_left c.args.script) in
     ends_at_source g.row.M (events_at g.row.M c.args.settings.form) (running_promise g.row.M next)
-    (λ source. running_follows g.row.M (events_at g.row.M c.args.settings.form) next source (turned_follows g.row.M c.args.settings.form c.args.settings.limit (lines_left c.args.script) source))
+    (λ source. running_follows g.row.M (events_at g.row.M c.args.settings.form) next source (turned_follows g.row.M c.args.settings (lines_left c.args.script) source))
     (g.H.Host.seen c.args.host.now) (g.H.Host.seen c.read_source.new.host) c.in-Err.answer c.in-Err.ensures
 
 pub returns-in-Ok-clause-stays : goal.returns-in-Ok-clause-stays

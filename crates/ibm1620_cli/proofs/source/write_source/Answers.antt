@@ -2,7 +2,8 @@ use Rattle.std.proofs.Common.{◌≡◌, ◌∙◌, ℕ, List, map, refl, ap, su
 use Rattle.outside_io.specs.declared.whole.Sent.TheVariants as sent
 use Rattle.loader_cards.specs.ObjectDeck.{deck_in}
 use Rattle.card_columns.specs.Types.{card_bytes}
-use Rattle.ibm1620_cli.specs.Source.{deck_text, SourceTexts, made_events}
+use Rattle.deck_punch.specs.DeckText.{deck_text}
+use Rattle.ibm1620_cli.specs.Source.{SourceTexts, made_events}
 use Rattle.ibm1620_cli.specs.Parts.{made_with, EventsOccur}
 use Rattle.ibm1620_cli.proofs.Makings.{made_is, deck_is}
 use Rattle.ibm1620_cli.proofs.source.write_source.Goals as goal

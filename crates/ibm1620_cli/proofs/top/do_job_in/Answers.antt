@@ -18,12 +18,12 @@ returns-in-Assemble-clause-told g c =
 pub returns-in-Generate-clause-told : goal.returns-in-Generate-clause-told
 returns-in-Generate-clause-told g c =
     rw c.in-Generate.is
-    (keeps_told (generate_promise c.args.plain.statements c.args.plain.number) (g.H.Host.seen c.args.host.now).world (g.H.Host.seen c.args.host.now) (g.H.Host.seen c.make_source.new.host) c.make_source.result refl c.make_source.ensures.promise)
+    (keeps_told (generate_promise c.args.plain.settings) (g.H.Host.seen c.args.host.now).world (g.H.Host.seen c.args.host.now) (g.H.Host.seen c.make_source.new.host) c.make_source.result refl c.make_source.ensures.promise)
 
 pub returns-in-Trial-clause-told : goal.returns-in-Trial-clause-told
 returns-in-Trial-clause-told g c =
     let w = (g.H.Host.seen c.args.host.now).world in
-    let source = source_deck c.args.plain.statements c.args.plain.number in
+    let source = source_deck c.args.plain.settings.statements c.args.plain.settings.number in
     rw c.in-Trial.is
-    (keeps_told (trial_promise c.args.plain.statements c.args.plain.number) w (g.H.Host.seen c.args.host.now) (g.H.Host.seen c.try_source.new.host) c.try_source.result
-    (by_apart (running_promise trial_modules (tried_promise c.args.plain.statements c.args.plain.number)) source (refusal_of (size trial_modules) source) w (world_with_texts (texts_told w) w) refl) c.try_source.ensures.promise)
+    (keeps_told (trial_promise c.args.plain.settings) w (g.H.Host.seen c.args.host.now) (g.H.Host.seen c.try_source.new.host) c.try_source.result
+    (by_apart (running_promise trial_modules (tried_promise c.args.plain.settings)) source (refusal_of (size trial_modules) source) w (world_with_texts (texts_told w) w) refl) c.try_source.ensures.promise)

@@ -14,7 +14,7 @@ use Rattle.ibm1620_cli.proofs.Sources.{refuses_stays}
 use Rattle.ibm1620_cli.proofs.trial.try_source.Goals as goal
 
 pub returns-in-Err-clause-promise : goal.returns-in-Err-clause-promise
-returns-in-Err-clause-promise g c = rw c.of.ensures (trial_lacks c.args.statements c.args.number (g.H.Host.seen c.args.host.now))
+returns-in-Err-clause-promise g c = rw c.of.ensures (trial_lacks c.args.settings (g.H.Host.seen c.args.host.now))
 
 pub returns-in-Ok-assemble_or_refuse-clause-promise : goal.returns-in-Ok-assemble_or_refuse-clause-promise
 returns-in-Ok-assemble_or_refuse-clause-promise g c =
@@ -22,16 +22,16 @@ returns-in-Ok-assemble_or_refuse-clause-promise g c =
     let made = sound.0 ∙ c.in-Ok.ensures in
     let start = g.H.Host.seen c.args.host.now in
     let new = g.H.Host.seen c.try_assembled-answer.new.host in
-    let next = tried_promise c.args.statements c.args.number in
+    let next = tried_promise c.args.settings in
     let stated = c.with_statement.result in
-    trial_unbroken c.args.statements c.args.number start new stated (ap (λ (t : List ℕ). refusal_of (size 1) t) (sym made) ∙ sound.1.good)
+    trial_unbroken c.args.settings start new stated (ap (λ (t : List ℕ). refusal_of (size 1) t) (sym made) ∙ sound.1.good)
     (subst (λ (t : List ℕ). KeepsPromise (running_promise 1 next t start.world) start new stated) made
     (subst (λ (mid : Seen). KeepsPromise (running_promise 1 next c.in-Ok-assemble_or_refuse.sound.source.items mid.world) mid new stated) sound.2
     (promise_ran 1 next c.in-Ok-assemble_or_refuse.sound (g.H.Host.seen c.assemble_or_refuse.new.host) new c.try_assembled-answer.result stated sound.1 c.with_statement.ensures c.try_assembled-answer.ensures.promise)))
 
 pub returns-in-Err-assemble_or_refuse-clause-promise : goal.returns-in-Err-assemble_or_refuse-clause-promise
 returns-in-Err-assemble_or_refuse-clause-promise g c =
-    trial_refused c.args.statements c.args.number (g.H.Host.seen c.args.host.now) (g.H.Host.seen c.assemble_or_refuse.new.host) c.in-Err-assemble_or_refuse.answer
+    trial_refused c.args.settings (g.H.Host.seen c.args.host.now) (g.H.Host.seen c.assemble_or_refuse.new.host) c.in-Err-assemble_or_refuse.answer
     (subst (λ (t : List ℕ). RefusesSource 1 t (g.H.Host.seen c.args.host.now) (g.H.Host.seen c.assemble_or_refuse.new.host) c.in-Err-assemble_or_refuse.answer) c.in-Ok.ensures c.in-Err-assemble_or_refuse.ensures)
 
 pub returns-in-Err-clause-stays : goal.returns-in-Err-clause-stays

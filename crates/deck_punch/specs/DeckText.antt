@@ -1,0 +1,8 @@
+-- The text of a deck.
+use Rattle.std.specs.Prelude.{ℕ, List}
+use Rattle.std.specs.List.{flat_map}
+use Rattle.report_lines.specs.Numbers.{with_line_feed}
+
+-- a line for each card
+abbrev pub deck_text : List (List ℕ) → List ℕ
+deck_text cards = flat_map with_line_feed cards
