@@ -16,10 +16,10 @@ use Rattle.cpu_step.specs.Step.{instruction}
 use Rattle.cpu_step.specs.Load.{state_for_load, load_trace}
 use Rattle.cpu_step.specs.Outside.{all_outside}
 use Rattle.operator_script.specs.declared.script.Action.{Action}
-use Rattle.operator_script.specs.declared.script.Action.TheVariants as action
 use Rattle.operator_script.specs.declared.script.ScriptLine.{ScriptLine}
 use Rattle.operator_script.specs.Turn.{RunPlace, Turning, Acted, Stepped, Ended, turn}
 use Rattle.operator_script.specs.TurnEvents.{action_events, front_events, step_events, events_within}
+use Rattle.operator_script.proofs.Actions.{of_action}
 use Rattle.ibm1620_cli.specs.Inputs.{reads_pack}
 use Rattle.ibm1620_cli.specs.Promise.{Unasked}
 use Rattle.ibm1620_cli.specs.Headline.{bytes_in}
@@ -134,12 +134,7 @@ writes_effects (CardTaken ∷ es) = writes_effects es
 writes_effects (LineTaken ∷ es) = writes_effects es
 
 writes_action : (a : Action) (s : State) → AreWrites (action_events a s)
-writes_action action.Start s = tt
-writes_action action.Load s = writes_effects (load_trace (state_for_load s)).effects
-writes_action (action.Switch k on) s = tt
-writes_action (action.Overflow stops) s = tt
-writes_action (action.InOut stops) s = tt
-writes_action (action.Flip at bit) s = tt
+writes_action = of_action (λ f events. (s : State) → AreWrites (events s)) (λ s. writes_effects (load_trace (state_for_load s)).effects) (λ change s. tt)
 
 writes_front_line : (lines : List ScriptLine) (s : State) → AreWrites (front_events lines s)
 writes_front_line [] s = tt

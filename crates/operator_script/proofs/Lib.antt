@@ -1,6 +1,7 @@
 pub mod NoLines
 pub mod Turning
 pub mod Acting
+pub mod Actions
 pub mod Moving
 pub mod LastPlace
 pub mod Running

@@ -11,6 +11,7 @@ use Rattle.operator_script.specs.declared.script.Action.{Action}
 use Rattle.operator_script.specs.declared.script.Action.TheVariants as action
 use Rattle.operator_script.specs.declared.script.ScriptLine.{ScriptLine}
 use Rattle.operator_script.specs.Turn.{RunPlace, Turning, Acted, Stepped, Ended, turn, state_after_action, place_after_action, place_after_step, by_mode, by_script, can_go, is_due, place_after, last_within, last_place, most_turns, ending_of, IsCutTurn, in_step, in_load, IsOnTheWay}
+use Rattle.operator_script.proofs.Actions.{of_action}
 use Rattle.operator_script.proofs.Turning.{Follows, turn_follows}
 use Rattle.operator_script.proofs.LastPlace.{on, last_on}
 
@@ -30,13 +31,7 @@ module _ (cards typed : Bool) where
   turning_kept (Ended how) = Ended how
 
   acted-telling : (a : Action) (s : State) → state_after_action a (telling cards typed s) ≡ telling cards typed (state_after_action a s)
-  unfolding state_after_action
-  acted-telling action.Start s = refl
-  acted-telling action.Load s = load-telling cards typed s
-  acted-telling (action.Switch k on) s = refl
-  acted-telling (action.Overflow stops) s = refl
-  acted-telling (action.InOut stops) s = refl
-  acted-telling (action.Flip at bit) s = refl
+  acted-telling = of_action (λ f events. (s : State) → f (telling cards typed s) ≡ telling cards typed (f s)) (load-telling cards typed) (λ change s. refl)
 
   limit-telling : (p : RunPlace) (b : Bool) → (if b then Ended (ending_of p.state) else Stepped (place_after_step (kept p))) ≡ turning_kept (if b then Ended (ending_of p.state) else Stepped (place_after_step p))
   limit-telling p true = refl
@@ -82,13 +77,9 @@ module _ (cards typed : Bool) where
 -- What is punched and typed only grows.
 
 acted_grows : (a : Action) (s : State) → Grown s (state_after_action a s)
-unfolding state_after_action
-acted_grows action.Start s = record { punched = grows_same s.punched; typed = grows_same s.typed }
-acted_grows action.Load s = grown_to s s (load_key s) (grown_same s) (load-written s)
-acted_grows (action.Switch k on) s = record { punched = grows_same s.punched; typed = grows_same s.typed }
-acted_grows (action.Overflow stops) s = record { punched = grows_same s.punched; typed = grows_same s.typed }
-acted_grows (action.InOut stops) s = record { punched = grows_same s.punched; typed = grows_same s.typed }
-acted_grows (action.Flip at bit) s = record { punched = grows_same s.punched; typed = grows_same s.typed }
+acted_grows =
+    of_action (λ f events. (s : State) → Grown s (f s)) (λ s. grown_to s s (load_key s) (grown_same s) (load-written s))
+    (λ change s. record { punched = grows_same s.punched; typed = grows_same s.typed })
 
 -- where a turn leads, and what is typed on the way there
 abbrev pub TurnGrows : RunPlace → Turning → Type 0

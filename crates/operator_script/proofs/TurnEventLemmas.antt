@@ -18,6 +18,7 @@ use Rattle.operator_script.specs.declared.script.ScriptLine.{ScriptLine}
 use Rattle.operator_script.specs.declared.turns.Ending.{Ending}
 use Rattle.operator_script.specs.Turn.{RunPlace, Turning, Acted, Stepped, Ended, turn, state_after_action, place_after_action, place_after_step, by_mode, by_script, can_go, is_due, due_action, place_after, last_within, most_turns, ending_of, IsCutTurn, in_step, in_load, IsOnTheWay}
 use Rattle.operator_script.specs.TurnEvents.{step_events, action_events, front_events, events_within, run_events}
+use Rattle.operator_script.proofs.Actions.{of_action}
 use Rattle.operator_script.proofs.Turning.{Follows, turn_follows}
 use Rattle.operator_script.proofs.LastPlace.{on, last_on}
 
@@ -63,13 +64,7 @@ front_is p line rest is = ap (λ (lines : List ScriptLine). front_events lines p
 -- THE CARDS AND THE LINES THAT ARE TAKEN
 
 acted_takes : (a : Action) (s : State) → HasTaken s (state_after_action a s) (action_events a s)
-unfolding state_after_action
-acted_takes action.Start s = taken_none s _ refl refl
-acted_takes action.Load s = load_taken s
-acted_takes (action.Switch k on) s = taken_none s _ refl refl
-acted_takes (action.Overflow stops) s = taken_none s _ refl refl
-acted_takes (action.InOut stops) s = taken_none s _ refl refl
-acted_takes (action.Flip at bit) s = taken_none s _ refl refl
+acted_takes = of_action (λ f events. (s : State) → HasTaken s (f s) (events s)) load_taken (λ change s. taken_none s _ refl refl)
 
 -- those that a turn takes
 abbrev pub TurnTakes : RunPlace → Turning → Type 0
@@ -99,13 +94,7 @@ last_takes limit (suc n) p = last_on_takes limit n p (turn limit p) (turn_takes 
 
 module _ (w : World) where
   acted_seen : (a : Action) (s : State) → seen_by w (state_after_action a s) ≡ after_events (seen_by w s) (action_events a s)
-  unfolding state_after_action
-  acted_seen action.Start s = refl
-  acted_seen action.Load s = load_seen w s
-  acted_seen (action.Switch k on) s = refl
-  acted_seen (action.Overflow stops) s = refl
-  acted_seen (action.InOut stops) s = refl
-  acted_seen (action.Flip at bit) s = refl
+  acted_seen = of_action (λ f events. (s : State) → seen_by w (f s) ≡ after_events (seen_by w s) (events s)) (load_seen w) (λ change s. refl)
 
   -- where a turn leads
   abbrev pub TurnDoes : RunPlace → Turning → Type 0
