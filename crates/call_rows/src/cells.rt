@@ -3,7 +3,7 @@
 // - `table|` stores the standard add table, `tables|` all standard tables
 // - `core|AT|TEXT` stores a text; `flip|AT|BIT` turns a bit of a cell round
 // - `keep|` keeps a copy of core; `takes words|I|END` copies these words from the one that was kept
-// - `copies cells|P|Q|N`, `puts cells|A|N|FROM` of the ten cells from there
+// - `copies cells|P|Q|N`
 // - `flag below|A`, `mark above|A`, `first bad|A|B`, `changed words|` from what was kept
 // - `show|AT|N` so many digits, `cell|AT` a cell and the number of its bits, `changed|` what is not as it was kept
 // - `zero words|` how many words core has, and how many of them are ten zeros
@@ -50,18 +50,6 @@ fn copy<const M: u32>(core: &mut Core<M>, line: &RowLine<'_>) -> Option<()> {
     Some(())
 }
 
-// Writes some of ten cells to another place.
-fn put<const M: u32>(core: &mut Core<M>, line: &RowLine<'_>) -> Option<()> {
-    let size = core.size();
-    let a = number(line.first)?;
-    let (n, from) = two_numbers(line.second)?;
-    if n > 10 || a > size - 10 || from > size - 10 {
-        return None;
-    }
-    core.put_cells(a, n, core.ten(from));
-    Some(())
-}
-
 // Copies words from the core that was kept.
 fn take_words<const M: u32>(desk: &mut Desk<M>, line: &RowLine<'_>) -> Option<()> {
     let words = desk.kept.size() / 10;
@@ -83,7 +71,6 @@ pub(crate) fn set<const M: u32>(desk: &mut Desk<M>, line: &RowLine<'_>) -> Optio
         "core" => write(core, number(line.first)?, line.second.as_bytes()).ok(),
         "flip" => turn(core, line),
         "copies cells" => copy(core, line),
-        "puts cells" => put(core, line),
         "takes words" => take_words(desk, line),
         "keep" => {
             desk.kept.copy_from(&desk.machine.core);

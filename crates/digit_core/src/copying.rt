@@ -13,7 +13,7 @@ ghost use Rattle.digit_core.specs.Written.{core_with_word};
 
 use crate::Core;
 use crate::standard_tables::AddTable;
-use crate::words::{are_good, are_good_at, ones_below, with_part};
+use crate::words::with_part;
 
 // Eight unflagged zeros above two cells.
 const EIGHT_ZEROS: u64 = 0x0820_8208_2082_0000;
@@ -345,22 +345,11 @@ impl<const M: u32> Core<M> {
         self.across(i, j)
     }
 
-    /// Replaces the ten cells from cell number `j` of word number `i` upwards by those of a word, good or not. All other cells stay.
+    /// Replaces the ten cells from cell number `j` of word number `i` upwards by those of a word that is known to hold digits: it isn't
+    /// looked at. All other cells stay.
     ///
-    /// `j` is below 10, and the ten cells lie in core. Of places ten apart `i` rises by one and `j` stays.
-    pub fn put_ten_of(&mut self, i: u32, j: u32, w: u64)
-        requires place { j < 10 }
-        requires room { 10 * i + j + 10 ≤ size M }
-        ensures { self.new ≡ core_with_word self.old (10 * i + j) 10 w }
-    {
-        self.sound = self.sound && are_good(w);
-        self.add_table = AddTable::Unseen;
-        put_ten(&mut self.words, i, j, w);
-    }
-
-    /// The same as `put_ten_of`, for a word that is known to hold digits: it isn't looked at again.
-    ///
-    /// Each cell of the word holds a digit, unless a cell of core holds none.
+    /// `j` is below 10, and the ten cells lie in core. Of places ten apart `i` rises by one and `j` stays. Each cell of the word holds a
+    /// digit, unless a cell of core holds none.
     #[inline(always)]
     pub fn put_ten_digits_of(&mut self, i: u32, j: u32, w: u64)
         requires place { j < 10 }
@@ -392,26 +381,10 @@ impl<const M: u32> Core<M> {
         )
     }
 
-    /// Replaces the `n` cells from `a` upwards by the lowest `n` cells of a word, good or not. All other cells stay.
+    /// Replaces the `n` cells from `a` upwards by the lowest `n` cells of a word that are known to hold digits: they aren't looked at. All
+    /// other cells stay.
     ///
-    /// `n` is at most 10, and the cells lie in core.
-    pub fn put_cells(&mut self, a: u32, n: u32, w: u64)
-        requires few { n ≤ 10 }
-        requires room { a + n ≤ size M }
-        ensures { self.new ≡ core_with_word self.old a n w }
-    {
-        self.size_law();
-        if n == 0 {
-            return;
-        }
-        self.sound = self.sound && are_good_at(w, ones_below(n));
-        self.add_table = AddTable::Unseen;
-        put_few(&mut self.words, a, n, w);
-    }
-
-    /// The same as `put_cells`, for cells that are known to hold digits: they aren't looked at again.
-    ///
-    /// Each of the lowest `n` cells of the word holds a digit, unless a cell of core holds none.
+    /// `n` is at most 10, and the cells lie in core. Each of these cells holds a digit, unless a cell of core holds none.
     pub fn put_digits(&mut self, a: u32, n: u32, w: u64)
         requires few { n ≤ 10 }
         requires room { a + n ≤ size M }

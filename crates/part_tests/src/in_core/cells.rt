@@ -1,10 +1,10 @@
-//! Searches, copies and writes of cells, each compared with the same one cell by cell, at each place of a word; the standard tables' law.
+//! Searches and copies of cells, each compared with the same one cell by cell, at each place of a word; the standard tables' law.
 
 ghost use Rattle.std.specs.Prelude.{◌+◌, ◌<◌, ◌≤◌};
 ghost use Rattle.digit_core.specs.Size.{IsSize};
 
 use core_texts::write;
-use digit_core::{Core, Digit, standard_digit, standard_tables_law, ten_across};
+use digit_core::{Core, Digit, standard_digit, standard_tables_law};
 use std::alloc::Global;
 
 // The number of a cell; 0 past the end of core.
@@ -158,66 +158,6 @@ fn copies_of_each_length(alloc: Global, o: u32) -> bool
 fn copies_at_each_place_of_a_word(rt: HostRuntime) {
     for o in 0..10 {
         assert!(rt; copies_of_each_length(rt.alloc(), o));
-    }
-}
-
-// Four bits that no cell has, and ten cells, some of which hold no digit.
-const WORD: u64 = 0xf123_4567_89ab_cdef;
-
-// Whether the lowest `n` cells of `WORD` stand from `a` on and zeros around them, and the first bad cell is found that is found one by one.
-fn has_them_alone<const M: u32>(core: &Core<M>, a: u32, n: u32) -> bool
-    requires a { a < 100 }
-    requires n { n ≤ 10 }
-{
-    core.size_law();
-    let mut same = core.first_bad(0, 119) == first_up(core, 2, 0, 120);
-    for at in 0..120 {
-        let inside = a <= at && at < a + n;
-        let want = if inside {
-            ((WORD >> (6 * (at.wrapping_sub(a) % 10))) % 64) as u8
-        } else {
-            32
-        };
-        same = same && cell(core, at) == want;
-    }
-    same
-}
-
-// Whether the lowest `n` cells of a word, good or not, are written alone from `a` on.
-fn writes_them_alone(alloc: Global, a: u32, n: u32) -> bool
-    requires a { a < 100 }
-    requires n { n ≤ 10 }
-{
-    let Ok(mut core) = Core::<1>::new(alloc) else {
-        return false;
-    };
-    core.size_law();
-    core.put_cells(a, n, WORD);
-    has_them_alone(&core, a, n)
-}
-
-// Whether all ten are written alone from cell number `o` of a word on, and read from there.
-fn writes_ten_alone(alloc: Global, o: u32) -> bool
-    requires { o < 10 }
-{
-    let Ok(mut core) = Core::<1>::new(alloc) else {
-        return false;
-    };
-    core.size_law();
-    core.put_ten_of(5, o, WORD);
-    let ten = core.ten_of(5, o);
-    has_them_alone(&core, 50 + o, 10)
-        && ten == WORD % (1 << 60)
-        && ten == ten_across(core.word(5), core.word(6), o)
-}
-
-#[test]
-fn cells_written_at_each_place_of_a_word(rt: HostRuntime) {
-    for o in 0..10 {
-        for n in 0..=10 {
-            assert!(rt; writes_them_alone(rt.alloc(), 50 + o, n));
-        }
-        assert!(rt; writes_ten_alone(rt.alloc(), o));
     }
 }
 
