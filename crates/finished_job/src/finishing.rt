@@ -4,6 +4,7 @@ ghost use Rattle.outside_io.specs.Real.{Finishes as EndsFiles, real_seen};
 ghost use Rattle.outside_io.specs.Mem.{mem_seen};
 
 use outside_io::{Host, Lockable, MemHost, RealHost, Sent, Trouble};
+use std::os::unix::fs::FileExt;
 use std::rt::{Clock, Files};
 
 /// A host whose files are finished at the end of a job, and that tells what failed last.
@@ -22,7 +23,7 @@ pub trait Finishes: Host {
 
 impl<'a, R: Files + Print + Clock + AllocGlobal> Finishes for RealHost<'a, R>
 where
-    R::File: Lockable,
+    R::File: Lockable + FileExt,
 {
     fn finish(&mut self) -> Sent {
         RealHost::finish(self)

@@ -209,7 +209,7 @@ pub trait Host {
         ensures { Binds (seen self.old) (seen self.new) unit name.now result };
 
     /// Takes the next bytes of an input, as many as the host likes, up to the length of the buffer. An input that is not bound is
-    /// empty.
+    /// empty. Where it fails, no clause says what the buffer holds.
     fn take(&mut self, unit: Unit, buf: &mut [u8]) -> Take
         requires input { is_input unit ≡ true }
         requires room { 0 < length buf.old }
@@ -224,7 +224,7 @@ pub trait Host {
 
     /// Reads a sector of the pack, 0 to 79,999, into the buffer. A sector that the file hasn't got, or only a part of, reads as filled up
     /// with the character 0; it stays as it is. Where no pack is bound, a host that tells the sectors has nothing of them until they are
-    /// written.
+    /// written. Where it fails, the buffer may be overwritten in part, and no clause says what it holds.
     fn read_sector(&mut self, a: u32, into: &mut [u8; SECTOR_LENGTH]) -> Drive
         requires { a < ALL_SECTORS }
         ensures { ReadsSector (seen self.old) (seen self.new) a into.new result };

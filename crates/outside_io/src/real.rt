@@ -9,11 +9,11 @@ ghost use Rattle.outside_io.specs.declared.host.Drive.TheVariants.{Done};
 use crate::host::{SECTOR_LENGTH, UNIT_COUNT, one_more};
 use crate::names::Names;
 use crate::opened::OpenFiles;
-use crate::pack_file::PackPlace;
 use crate::scratch::{PackRoom, ScratchPack};
 use crate::trouble::{Cause, Doing, Trouble};
 use crate::{Bound, Drive, Host, Lockable, Put, Sent, Take, Unit, again, pack_file};
 use std::io;
+use std::os::unix::fs::FileExt;
 use std::rt::{Clock, Files};
 
 // Writes to the standard output or to the unit's file.
@@ -90,7 +90,8 @@ where
 pub struct RealHost<'a, R: Files> {
     rt: &'a R,
     files: OpenFiles<R::File>,
-    place: PackPlace,
+    // How many bytes the pack's file is known to have, at least.
+    pack_has: u64,
     scratch: ScratchPack,
     bound: [bool; UNIT_COUNT],
     names: Names,
@@ -128,7 +129,7 @@ where
         RealHost {
             rt,
             files: OpenFiles::new(),
-            place: PackPlace::new(),
+            pack_has: 0,
             scratch: ScratchPack::new(rt.alloc(), room),
             bound: [false; UNIT_COUNT],
             names: Names::new(),
@@ -179,7 +180,7 @@ where
 
 impl<'a, R: Files + Print + Clock + AllocGlobal> Host for RealHost<'a, R>
 where
-    R::File: Lockable,
+    R::File: Lockable + FileExt,
 {
     ghost seen = { real_seen };
 
@@ -245,7 +246,6 @@ where
         match pack_file::read_sector(
             self.bound[Unit::Pack.place()],
             self.files.pack(),
-            &mut self.place,
             &self.scratch,
             a,
             into,
@@ -271,7 +271,7 @@ where
         match pack_file::write_sector(
             self.bound[Unit::Pack.place()],
             self.files.pack(),
-            &mut self.place,
+            &mut self.pack_has,
             &mut self.scratch,
             a,
             from,

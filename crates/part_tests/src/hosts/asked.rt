@@ -6,6 +6,7 @@ use outside_io::{
 };
 use std::fs;
 use std::io::ErrorKind;
+use std::os::unix::fs::FileExt;
 use std::rt::{Clock, Files};
 
 // Whether the sector is read, and begins so.
@@ -115,7 +116,7 @@ fn answers<R: Files + Print + Clock + AllocGlobal>(
     ask: Ask<'_>,
 ) -> bool
 where
-    R::File: Lockable,
+    R::File: Lockable + FileExt,
 {
     match ask {
         Ask::Put(unit, piece, end) => gives(host, unit, piece, end),
@@ -137,7 +138,7 @@ pub(crate) fn answers_all<R: Files + Print + Clock + AllocGlobal>(
     asks: &[Ask<'_>],
 ) -> bool
 where
-    R::File: Lockable,
+    R::File: Lockable + FileExt,
 {
     for &ask in asks {
         if !answers(rt, host, ask) {

@@ -5,6 +5,7 @@ use std::cell::Cell;
 use std::fmt::Display;
 use std::fs::{Files, Metadata, OpenFile, OpenOptions};
 use std::io::{Error, ErrorKind, Read, Result, Seek, SeekFrom, Write};
+use std::os::unix::fs::FileExt;
 use std::rt::Clock;
 use std::time::Duration;
 
@@ -176,6 +177,18 @@ impl Write for RoomyFile {
 impl Seek for RoomyFile {
     fn seek(&mut self, to: SeekFrom) -> Result<u64> {
         self.file.seek(to)
+    }
+}
+
+impl FileExt for RoomyFile {
+    fn read_at(&self, buf: &mut [u8], from: u64) -> Result<usize> {
+        self.file.read_at(buf, from)
+    }
+
+    fn write_at(&self, piece: &[u8], from: u64) -> Result<usize> {
+        let left = self.room.saturating_sub(from);
+        let n = left.min(piece.len() as u64) as usize;
+        self.file.write_at(&piece[..n], from)
     }
 }
 
