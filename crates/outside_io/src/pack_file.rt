@@ -70,7 +70,8 @@ pub(crate) fn write_sector<F: FileExt + Seek>(
     }
 }
 
-// Reads a sector, with zeros for the bytes that the file hasn't got.
+// Reads a sector, with zeros for the bytes that the file hasn't got. By itself, so that a pack in memory does not pay for it.
+#[inline(never)]
 fn read_from<F: FileExt>(file: &F, a: u32, into: &mut [u8; SECTOR_LENGTH]) -> Result<(), Cause> {
     let start = start_of(a);
     let mut n = 0;
@@ -84,7 +85,8 @@ fn read_from<F: FileExt>(file: &F, a: u32, into: &mut [u8; SECTOR_LENGTH]) -> Re
     Ok(())
 }
 
-// Writes a sector, behind zeros where the file ends before it.
+// Writes a sector, behind zeros where the file ends before it. By itself, as the reading is.
+#[inline(never)]
 fn write_to<F: FileExt + Seek>(
     file: &mut F,
     has: &mut u64,
