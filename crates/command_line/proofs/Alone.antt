@@ -2,7 +2,7 @@
 use Rattle.std.proofs.Common.{◌≡◌, ◌≤◌, true, List, [], ◌∷◌, length, map, sym, subst, ◌∙◌, ap, arith, get_or, Global, String, string_bytes}
 use Rattle.std.specs.Prelude.{Option, Some, is_some, option_map, unwrap_or}
 use Rattle.clap.specs.Words.{Row as Found, Text, is_simple, subcommand_of, takes}
-use Rattle.sps_ops.specs.Rows.{value_by_name}
+use Rattle.line_words.specs.Rows.{value_by_name}
 use Rattle.command_line.specs.declared.words.Command.{Command}
 use Rattle.command_line.specs.Words.{commands, meaning_of_words}
 use Rattle.command_line.specs.Matched.{program, program_for}

@@ -9,7 +9,7 @@ use Rattle.clap.specs.Words.{Row as Found, Text, reading_of}
 use Rattle.clap.specs.declared.builder.value_parser.ValueParser.TheVariants as vp
 use Rattle.clap.specs.declared.parser.matches.ValueSource.TheVariants.{CommandLine}
 use Rattle.clap.proofs.WalkLemmas.{both}
-use Rattle.sps_ops.specs.Rows.{Row, value_by_name}
+use Rattle.line_words.specs.Rows.{Row, value_by_name}
 use Rattle.command_line.specs.declared.options.Slot.{Slot}
 use Rattle.command_line.specs.declared.words.Command.{Command}
 use Rattle.command_line.specs.Options.{same_slot, slot_word}

@@ -5,7 +5,7 @@ use Rattle.std.specs.Prelude.{Option, Some, find, unwrap_or, if◌then◌else◌
 use Rattle.std.specs.List.{list_all}
 use Rattle.std.specs.Str.{bytes_eq}
 use Rattle.clap.proofs.WalkLemmas.{both}
-use Rattle.sps_ops.specs.Rows.{Row}
+use Rattle.line_words.specs.Rows.{Row}
 use Rattle.outside_io.specs.declared.host.Unit as unit
 use Rattle.outside_io.specs.declared.host.Unit.TheVariants.{Source}
 use Rattle.outside_io.specs.World.{place}

@@ -9,7 +9,7 @@ use Rattle.clap.specs.Words.{App, Row as Found, Rule, Shape, Text, takes}
 use Rattle.clap.specs.Walk.{Held, Names, Step, Walk, after_step, arg_by_id, arg_by_long, has_row, finished, idle, nothing_held, option, settled, subcommand_or_other, walk, walk_from, walked}
 use Rattle.clap.specs.Simple.{entered, names_of}
 use Rattle.clap.specs.Takes.{bundle_passes, built_takes, default_passes, entered_passes, flag_word_passes, is_valid, level_passes, long_passes, other_passes, settle_passes, step_passes, turn_passes, use_passes, values_pass, walk_passes, word_passes}
-use Rattle.sps_ops.specs.Rows.{value_by_name}
+use Rattle.line_words.specs.Rows.{value_by_name}
 use Rattle.command_line.specs.declared.options.Slot.{Slot}
 use Rattle.command_line.specs.declared.words.Command.{Command}
 use Rattle.command_line.specs.declared.words.Command.TheVariants.{Assemble}

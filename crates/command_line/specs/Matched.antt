@@ -4,7 +4,7 @@ use Rattle.clap.specs.Words.{App, Row as Found, Rule, Shape, Text, app_of, first
 use Rattle.clap.specs.declared.builder.command.Command as clap
 use Rattle.clap.specs.declared.builder.command.Command.TheViews.{out-Command}
 use Rattle.clap.specs.declared.builder.action.ArgAction.TheVariants.{Set}
-use Rattle.sps_ops.specs.Rows.{Row, value_by_name}
+use Rattle.line_words.specs.Rows.{Row, value_by_name}
 use Rattle.command_line.specs.declared.options.Slot.{Slot}
 use Rattle.command_line.specs.declared.words.Command.{Command}
 use Rattle.command_line.specs.Options.{slot_word, slots}

@@ -2,7 +2,7 @@
 use Rattle.std.specs.Prelude.{ℕ, List, [], ◌∷◌, Option, Some, None, option_and_then}
 use Rattle.outside_io.specs.declared.host.Unit as unit
 use Rattle.line_words.specs.Words.{largest_number, number_in}
-use Rattle.sps_ops.specs.Rows.{Row, row, value_by_name}
+use Rattle.line_words.specs.Rows.{Row, row, value_by_name}
 use Rattle.command_line.specs.Numbers.{fewest_made, last_source, most_made}
 use Rattle.command_line.specs.declared.options.Slot.{Slot}
 use Rattle.command_line.specs.declared.options.Slot.TheVariants.{File, Limit, Statements, Number, Form, Core}

@@ -1,6 +1,6 @@
 // Plain words, read with clap.
 ghost use Rattle.std.specs.Prelude.{◌≡◌, true, false, map, string_bytes, is_some, option_copied, IfOk};
-ghost use Rattle.sps_ops.specs.Rows.{row, row_from_table};
+ghost use Rattle.line_words.specs.Rows.{row, row_from_table};
 ghost use Rattle.clap.specs.Words.{app_of, found_of, kind_of, rows_of, rule_of, subcommand_of};
 ghost use Rattle.command_line.specs.Given.{values_in, MeansJust};
 ghost use Rattle.command_line.specs.Options.{slot_word};

@@ -1,7 +1,7 @@
 // The reading of values into types.
 ghost use Rattle.std.specs.Prelude.{◌≡◌, ◌≤◌, IfSome, option_copied};
 ghost use Rattle.line_words.specs.Words.{number_in};
-ghost use Rattle.sps_ops.specs.Rows.{value_by_name};
+ghost use Rattle.line_words.specs.Rows.{value_by_name};
 ghost use Rattle.command_line.specs.Given.{values_in, MeansJust};
 ghost use Rattle.command_line.specs.Numbers.{AreNumbers, IsWithin};
 ghost use Rattle.command_line.specs.Reading.{core_in, core_sizes, deck_forms, form_in, read_or, reading, settings_in};
@@ -12,8 +12,7 @@ use crate::options::Slot;
 use crate::values::Values;
 use crate::words::{Command, CoreSize, STANDARD_LIMIT};
 use deck_punch::DeckForm;
-use line_words::{LARGEST_NUMBER, number_in};
-use sps_ops::find;
+use line_words::{LARGEST_NUMBER, find, number_in};
 
 /// What the words set for a job, by the options that have a value of their own: all but the names of files, and the size of core.
 ///

@@ -1,6 +1,6 @@
 // The words of the command line.
 ghost use Rattle.std.specs.Prelude.{◌≡◌, true, map, string_bytes, option_copied, is_some, IfOk, IfErr};
-ghost use Rattle.sps_ops.specs.Rows.{row_from_table, value_by_name};
+ghost use Rattle.line_words.specs.Rows.{row_from_table, value_by_name};
 ghost use Rattle.command_line.specs.Words.{commands, meaning_of_words, names_of};
 ghost use Rattle.command_line.specs.Given.{MeansJust};
 
@@ -8,8 +8,8 @@ use crate::given::Plain;
 use crate::grammar::values_of;
 use crate::matched::matched;
 use crate::reading::read;
+use line_words::find;
 use outside_io::Unit;
-use sps_ops::find;
 use std::alloc::{AllocError, Global};
 
 /// What the program does.

@@ -3,7 +3,7 @@ ghost use Rattle.std.specs.Prelude.{◌≡◌};
 ghost use Rattle.message_hints.specs.Commands.{command_word};
 
 use command_line::Command;
-use sps_ops::find;
+use line_words::find;
 
 // What the value behind an option has to be.
 #[derive(Clone, Copy)]

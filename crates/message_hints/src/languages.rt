@@ -2,7 +2,8 @@
 ghost use Rattle.std.specs.Prelude.{Some};
 ghost use Rattle.message_hints.specs.Languages.{absent_text, encoding_text, opening_text};
 
-use sps_ops::{Rule, find};
+use line_words::find;
+use sps_ops::Rule;
 use std::fmt;
 
 /// How a file is encoded that is no plain text of bytes.

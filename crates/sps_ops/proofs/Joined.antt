@@ -2,7 +2,7 @@
 use Rattle.std.proofs.Common.{◌≡◌, ◌∙◌, ℕ, true, false, List, [], ◌∷◌, ◌++◌, map, Some, None, bytes_eq, if◌then◌else◌, refl}
 use Rattle.std.specs.Option.{option_map, option_or}
 use Rattle.sps_ops.specs.declared.operation.Operation.TheVariants.{Declare}
-use Rattle.sps_ops.specs.Rows.{Row, value_by_name, with_values}
+use Rattle.line_words.specs.Rows.{Row, value_by_name, with_values}
 use Rattle.sps_ops.specs.Operations.{mnemonics, unique_mnemonics, declaratives, by_digits, opcodes, instruction, operations}
 
 -- a name is in the first of two tables that has it

@@ -8,7 +8,7 @@ use Rattle.sps_ops.specs.declared.operation.Operation.{Operation}
 use Rattle.sps_ops.specs.declared.operation.Operation.TheVariants.{Instruction, Declare}
 use Rattle.sps_ops.specs.declared.operation.Declarative.{Declarative}
 use Rattle.sps_ops.specs.declared.operation.Declarative.TheVariants.{Ds, Dss, Das, Dc, Dsc, Dac, Dsa, Dsb, Dnb, Dgm, Dda, Dorg, Dend, Head}
-use Rattle.sps_ops.specs.Rows.{Row, row, with_values, value_by_name}
+use Rattle.line_words.specs.Rows.{Row, row, with_values, value_by_name}
 
 -- the instructions and their opcodes
 abbrev pub mnemonics : List (Row ℕ)

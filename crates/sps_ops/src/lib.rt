@@ -10,4 +10,4 @@ mod table;
 
 pub use operation::{Declarative, Operation};
 pub use rule::{RULES, Rule, RuleRow, Sentence};
-pub use table::{find, lookup};
+pub use table::lookup;

@@ -1,11 +1,11 @@
 // The tables of operations, and looking one up.
 ghost use Rattle.std.specs.Prelude.{◌≡◌, ◌<◌, map, length, IfSome, Some};
-ghost use Rattle.sps_ops.specs.Rows.{row_from_table, value_by_name, EachRowStandsFor, HasRow};
+ghost use Rattle.line_words.specs.Rows.{row_from_table, value_by_name, EachRowStandsFor, HasRow};
 ghost use Rattle.line_words.specs.Blanks.{without_outer_blanks};
 ghost use Rattle.sps_ops.specs.Operations.{lookup_of, operations, instruction, opcodes, by_digits, two_digit_text, mnemonics, unique_mnemonics, declaratives};
 
 use crate::{Declarative, Operation};
-use line_words::trimmed;
+use line_words::{find, trimmed};
 
 // The instructions and their opcodes.
 const MNEMONICS: [(&str, u8); 34] = [
@@ -272,23 +272,8 @@ fn declarative(name: &[u8]) -> Option<Declarative>
     find(&DECLARATIVES, name)
 }
 
-/// What the first row of a name has, in a table of names and what they stand for; `None` where no row has the name.
-///
-/// Source: this project's own.
-#[tactic(auto, unfolding(crate::specs::Rows::value_by_name))]
-pub fn find<T: Copy>(rows: &[(&str, T)], name: &[u8]) -> Option<T>
-    ensures { result ≡ value_by_name (map row_from_table rows.now) name.now }
-{
-    for (text, value) in rows {
-        if name == text.as_bytes() {
-            return Some(*value);
-        }
-    }
-    None
-}
-
 // The opcode of the first row whose opcode has these two digits.
-#[tactic(auto, unfolding(crate::specs::Rows::value_by_name))]
+#[tactic(auto, unfolding(line_words::specs::Rows::value_by_name))]
 fn find_digits(rows: &[(&str, u8)], name: &[u8]) -> Option<u8>
     ensures { result ≡ value_by_name (map by_digits (map row_from_table rows.now)) name.now }
 {

@@ -2,7 +2,7 @@ use Rattle.std.proofs.Common.{◌∙◌, sym, ap, map, string_bytes, List}
 use Rattle.std.specs.Prelude.{Option, option_map, option_and_then}
 use Rattle.clap.specs.declared.parser.matches.ArgMatches.TheViews.{out-ArgMatches}
 use Rattle.clap.specs.Words.{App, Row as Found, Text, found_of, is_simple, rows_of, subcommand_of, takes}
-use Rattle.sps_ops.specs.Rows.{value_by_name}
+use Rattle.line_words.specs.Rows.{value_by_name}
 use Rattle.command_line.specs.declared.words.Command.{Command}
 use Rattle.command_line.specs.Words.{commands}
 use Rattle.command_line.specs.Reading.{reading}

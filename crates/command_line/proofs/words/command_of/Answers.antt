@@ -1,6 +1,6 @@
 -- The table of the code is that of the definition.
 use Rattle.std.proofs.Common.{◌∙◌, ap}
-use Rattle.sps_ops.specs.Rows.{value_by_name}
+use Rattle.line_words.specs.Rows.{value_by_name}
 use Rattle.command_line.specs.Words.{commands}
 use Rattle.command_line.proofs.words.command_of.Goals as goal
 

@@ -1,5 +1,5 @@
 use Rattle.std.proofs.Common.{◌≡◌, drop, map}
-use Rattle.sps_ops.specs.Rows.{value_by_name, row_from_table}
+use Rattle.line_words.specs.Rows.{value_by_name, row_from_table}
 use Rattle.sps_ops.specs.Operations.{by_digits}
 use Rattle.sps_ops.proofs.table.find_digits.Given as goal
 
