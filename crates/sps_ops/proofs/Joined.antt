@@ -3,7 +3,7 @@ use Rattle.std.proofs.Common.{◌≡◌, ◌∙◌, ℕ, true, false, List, [], 
 use Rattle.std.specs.Option.{option_map, option_or}
 use Rattle.sps_ops.specs.declared.operation.Operation.TheVariants.{Declare}
 use Rattle.line_words.specs.Rows.{Row, value_by_name, with_values}
-use Rattle.sps_ops.specs.Operations.{mnemonics, unique_mnemonics, declaratives, by_digits, opcodes, instruction, operations}
+use Rattle.sps_ops.specs.Operations.{mnemonics, unique_mnemonics, declaratives, by_digits, opcodes, plain, whole, operations}
 
 -- a name is in the first of two tables that has it
 value_in-append : {A : Type 0} (xs ys : List (Row A)) (name : List ℕ) → value_by_name (xs ++ ys) name ≡ option_or (value_by_name xs name) (value_by_name ys name)
@@ -23,14 +23,12 @@ value_in-with_values f (r ∷ rs) name = elim (bytes_eq name r.name) as (λ t. (
   | false ↦ value_in-with_values f rs name
 ]
 
--- an opcode is found by its mnemonic, or else by its digits
+-- an instruction is found by its mnemonic, or else by its digits
 pub opcode_by_table : (name : List ℕ) → value_by_name opcodes name ≡ option_or (value_by_name mnemonics name) (value_by_name (map by_digits mnemonics) name)
 opcode_by_table name = value_in-append mnemonics (map by_digits mnemonics) name
 
 -- an operation is an instruction by its opcode or by a unique mnemonic, or else a declarative
-pub operation_by_table : (name : List ℕ) → value_by_name operations name ≡ option_or (option_map (λ opcode. instruction opcode None) (value_by_name opcodes name)) (option_or (option_map (λ u. instruction u.0 (Some u.1)) (value_by_name unique_mnemonics name)) (option_map Declare (value_by_name declaratives name)))
+pub operation_by_table : (name : List ℕ) → value_by_name operations name ≡ option_or (option_map plain (value_by_name opcodes name)) (option_or (option_map whole (value_by_name unique_mnemonics name)) (option_map Declare (value_by_name declaratives name)))
 operation_by_table name =
-    let plain = λ (opcode : ℕ). instruction opcode None in
-    let whole = λ (u : ℕ × ℕ). instruction u.0 (Some u.1) in
     value_in-append (with_values plain opcodes) (with_values whole unique_mnemonics ++ with_values Declare declaratives) name
     ∙ rw (value_in-append (with_values whole unique_mnemonics) (with_values Declare declaratives) name, value_in-with_values plain opcodes name, value_in-with_values whole unique_mnemonics name, value_in-with_values Declare declaratives name)

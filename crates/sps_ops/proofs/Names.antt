@@ -4,11 +4,12 @@ use Rattle.std.specs.Borrow.{Bor}
 use Rattle.std.proofs.lemmas.Bool.Decides.{nat_tests}
 use Rattle.std.proofs.lemmas.Slice.Eq.{bytes_eq-Decides}
 use Rattle.std.proofs.lemmas.List.Elements.{Contains-append_left, Contains-append_right}
+use Rattle.instruction_table.specs.declared.InstructionRow.{InstructionRow}
 use Rattle.sps_ops.specs.declared.operation.Operation.{Operation}
 use Rattle.sps_ops.specs.declared.operation.Operation.TheVariants.{Declare}
 use Rattle.sps_ops.specs.declared.operation.Declarative.{Declarative}
 use Rattle.line_words.specs.Rows.{Row, row_from_table, value_by_name, with_values}
-use Rattle.sps_ops.specs.Operations.{operations, opcodes, by_digits, mnemonics, unique_mnemonics, declaratives, instruction}
+use Rattle.sps_ops.specs.Operations.{operations, opcodes, by_digits, mnemonics, unique_mnemonics, declaratives, plain, whole}
 
 -- each name stands once
 abbrev pub names_once : {A : Type 0} → List (Row A) → Bool
@@ -63,29 +64,29 @@ made f rows r c = made_at f rows r c.0 c.1 c.2
 
 -- the table of operations has three parts
 abbrev by_opcode : List (Row Operation)
-by_opcode = with_values (λ opcode. instruction opcode None) opcodes
+by_opcode = with_values plain opcodes
 
 abbrev by_whole : List (Row Operation)
-by_whole = with_values (λ u. instruction u.0 (Some u.1)) unique_mnemonics
+by_whole = with_values whole unique_mnemonics
 
 abbrev declared : List (Row Operation)
 declared = with_values Declare declaratives
 
 -- the operation of a mnemonic
-pub by_mnemonic : (name : List ℕ) (opcode : ℕ) → Contains mnemonics (record { name = name; value = opcode }) → value_by_name operations name ≡ Some (instruction opcode None)
-by_mnemonic name opcode c =
-    let r : Row Operation = record { name = name; value = instruction opcode None } in
+pub by_mnemonic : (name : List ℕ) (i : InstructionRow) → Contains mnemonics (record { name = name; value = i }) → value_by_name operations name ≡ Some (plain i)
+by_mnemonic name i c =
+    let r : Row Operation = record { name = name; value = plain i } in
     operation_found r (Contains-append_left by_opcode (by_whole ++ declared) r
-    (made (λ code. instruction code None) opcodes (record { name = name; value = opcode })
-    (Contains-append_left mnemonics (map by_digits mnemonics) (record { name = name; value = opcode }) c)))
+    (made plain opcodes (record { name = name; value = i })
+    (Contains-append_left mnemonics (map by_digits mnemonics) (record { name = name; value = i }) c)))
 
 -- of a unique mnemonic
-pub by_unique : (name : List ℕ) (u : ℕ × ℕ) → Contains unique_mnemonics (record { name = name; value = u }) → value_by_name operations name ≡ Some (instruction u.0 (Some u.1))
+pub by_unique : (name : List ℕ) (u : ℕ × ℕ) → Contains unique_mnemonics (record { name = name; value = u }) → value_by_name operations name ≡ Some (whole u)
 by_unique name u c =
-    let r : Row Operation = record { name = name; value = instruction u.0 (Some u.1) } in
+    let r : Row Operation = record { name = name; value = whole u } in
     operation_found r (Contains-append_right by_opcode (by_whole ++ declared) r
     (Contains-append_left by_whole declared r
-    (made (λ x. instruction x.0 (Some x.1)) unique_mnemonics (record { name = name; value = u }) c)))
+    (made whole unique_mnemonics (record { name = name; value = u }) c)))
 
 -- of a declarative
 pub by_declarative : (name : List ℕ) (d : Declarative) → Contains declaratives (record { name = name; value = d }) → value_by_name operations name ≡ Some (Declare d)

@@ -1,42 +1,20 @@
--- The tables of operations, to be compared with the manual.
+-- The tables of operations, to be compared with the manual; that of the instructions is `INSTRUCTIONS` of `instruction_table`.
 -- Source: SPS manual, operation codes and declarative operations; which operations there are, and those of the disk,
 -- are this project's own.
-use Rattle.std.specs.Prelude.{ℕ, ◌+◌, ◌/◌, ◌%◌, Bool, ◌==◌, List, [], ◌∷◌, ◌++◌, map, Option, Some, None}
-use Rattle.std.specs.List.{list_any}
+use Rattle.std.specs.Prelude.{ℕ, ◌+◌, ◌/◌, ◌%◌, false, List, [], ◌∷◌, ◌++◌, map, Option, Some, None}
 use Rattle.line_words.specs.Blanks.{without_outer_blanks}
+use Rattle.instruction_table.specs.declared.InstructionRow.{InstructionRow}
+use Rattle.instruction_table.specs.declared.table.TheConstants.{INSTRUCTIONS}
+use Rattle.instruction_table.specs.Table.{code_of, uses_of, takes_field}
 use Rattle.sps_ops.specs.declared.operation.Operation.{Operation}
 use Rattle.sps_ops.specs.declared.operation.Operation.TheVariants.{Instruction, Declare}
 use Rattle.sps_ops.specs.declared.operation.Declarative.{Declarative}
 use Rattle.sps_ops.specs.declared.operation.Declarative.TheVariants.{Ds, Dss, Das, Dc, Dsc, Dac, Dsa, Dsb, Dnb, Dgm, Dda, Dorg, Dend, Head}
 use Rattle.line_words.specs.Rows.{Row, row, with_values, value_by_name}
 
--- the instructions and their opcodes
-abbrev pub mnemonics : List (Row ℕ)
-mnemonics =
-    row "A" 21 ∷ row "AM" 11
-    ∷ row "S" 22 ∷ row "SM" 12
-    ∷ row "C" 24 ∷ row "CM" 14
-    ∷ row "TD" 25 ∷ row "TDM" 15
-    ∷ row "TF" 26 ∷ row "TFM" 16
-    ∷ row "BT" 27 ∷ row "BTM" 17
-    ∷ row "TR" 31
-    ∷ row "SF" 32 ∷ row "CF" 33
-    ∷ row "K" 34
-    ∷ row "DN" 35
-    ∷ row "RN" 36 ∷ row "RA" 37
-    ∷ row "WN" 38 ∷ row "WA" 39
-    ∷ row "NOP" 41
-    ∷ row "BB" 42
-    ∷ row "BD" 43
-    ∷ row "BNF" 44
-    ∷ row "BNR" 45
-    ∷ row "BNG" 55
-    ∷ row "BI" 46 ∷ row "BNI" 47
-    ∷ row "H" 48
-    ∷ row "B" 49
-    ∷ row "MF" 71
-    ∷ row "TNS" 72 ∷ row "TNF" 73
-    ∷ []
+-- the instructions, which are those of the machine
+abbrev pub mnemonics : List (Row InstructionRow)
+mnemonics = map (λ r. record { name = r.0.now; value = r.1 }) INSTRUCTIONS
 
 -- the unique mnemonics: opcode and whole Q
 abbrev pub unique_mnemonics : List (Row (ℕ × ℕ))
@@ -73,27 +51,27 @@ declaratives =
 abbrev pub two_digit_text : ℕ → List ℕ
 two_digit_text n = (48 + n / 10) ∷ (48 + n % 10) ∷ []
 
--- an opcode under its two digits
-abbrev pub by_digits : Row ℕ → Row ℕ
-by_digits r = record { name = two_digit_text r.value; value = r.value }
+-- an instruction under the two digits of its opcode
+abbrev pub by_digits : Row InstructionRow → Row InstructionRow
+by_digits r = record { name = two_digit_text (code_of r.value); value = r.value }
 
--- the opcodes, under their mnemonics and under their digits
-abbrev pub opcodes : List (Row ℕ)
+-- the instructions, under their mnemonics and under their digits
+abbrev pub opcodes : List (Row InstructionRow)
 opcodes = mnemonics ++ map by_digits mnemonics
 
--- the instructions that get a flag on Q7 where their flag part is empty
-abbrev pub is_immediate : ℕ → Bool
-is_immediate opcode = list_any (λ code. opcode == code) (11 ∷ 12 ∷ 14 ∷ 16 ∷ 17 ∷ [])
+-- an instruction by its row: immediate, so that it gets a flag on Q7 where its flag part is empty, where Q is a field in itself
+abbrev pub plain : InstructionRow → Operation
+plain r = Instruction (code_of r) None (takes_field (uses_of r))
 
--- an instruction, with its Q where the mnemonic says it
-abbrev pub instruction : ℕ → Option ℕ → Operation
-instruction opcode q = Instruction opcode q (is_immediate opcode)
+-- an instruction by a unique mnemonic, with its Q; none of these is immediate
+abbrev pub whole : ℕ × ℕ → Operation
+whole u = Instruction u.0 (Some u.1) false
 
 -- the operations
 abbrev pub operations : List (Row Operation)
 operations =
-    with_values (λ opcode. instruction opcode None) opcodes
-    ++ (with_values (λ u. instruction u.0 (Some u.1)) unique_mnemonics
+    with_values plain opcodes
+    ++ (with_values whole unique_mnemonics
     ++ with_values Declare declaratives)
 
 -- the operation of a name, blanks at both ends ignored

@@ -2,48 +2,11 @@
 ghost use Rattle.std.specs.Prelude.{◌≡◌, ◌<◌, map, length, IfSome, Some};
 ghost use Rattle.line_words.specs.Rows.{row_from_table, value_by_name, EachRowStandsFor, HasRow};
 ghost use Rattle.line_words.specs.Blanks.{without_outer_blanks};
-ghost use Rattle.sps_ops.specs.Operations.{lookup_of, operations, instruction, opcodes, by_digits, two_digit_text, mnemonics, unique_mnemonics, declaratives};
+ghost use Rattle.sps_ops.specs.Operations.{lookup_of, operations, plain, whole, opcodes, by_digits, two_digit_text, mnemonics, unique_mnemonics, declaratives};
 
 use crate::{Declarative, Operation};
+use instruction_table::{INSTRUCTIONS, InstructionRow, OperandUse};
 use line_words::{find, trimmed};
-
-// The instructions and their opcodes.
-const MNEMONICS: [(&str, u8); 34] = [
-    ("A", 21),
-    ("AM", 11),
-    ("S", 22),
-    ("SM", 12),
-    ("C", 24),
-    ("CM", 14),
-    ("TD", 25),
-    ("TDM", 15),
-    ("TF", 26),
-    ("TFM", 16),
-    ("BT", 27),
-    ("BTM", 17),
-    ("TR", 31),
-    ("SF", 32),
-    ("CF", 33),
-    ("K", 34),
-    ("DN", 35),
-    ("RN", 36),
-    ("RA", 37),
-    ("WN", 38),
-    ("WA", 39),
-    ("NOP", 41),
-    ("BB", 42),
-    ("BD", 43),
-    ("BNF", 44),
-    ("BNR", 45),
-    ("BNG", 55),
-    ("BI", 46),
-    ("BNI", 47),
-    ("H", 48),
-    ("B", 49),
-    ("MF", 71),
-    ("TNS", 72),
-    ("TNF", 73),
-];
 
 // The unique mnemonics, each with its opcode and its whole Q.
 const UNIQUE_MNEMONICS: [(&str, (u8, u32)); 46] = [
@@ -154,16 +117,16 @@ fn quick_operation(name: &[u8]) -> Option<Operation>
     ensures { IfSome result (λ o. value_by_name operations name.now ≡ Some o) }
 {
     let k = ROWS[number_of(name)] as usize;
-    let instructions = MNEMONICS.len();
+    let instructions = INSTRUCTIONS.len();
     if k < instructions {
-        let opcode = row_at(&MNEMONICS, k, name)?;
-        return Some(instruction(opcode, None));
+        let row = row_at(&INSTRUCTIONS, k, name)?;
+        return Some(plain(row));
     }
     let k = k - instructions;
     let unique = UNIQUE_MNEMONICS.len();
     if k < unique {
-        let whole = row_at(&UNIQUE_MNEMONICS, k, name)?;
-        return Some(instruction(whole.0, Some(whole.1)));
+        let named = row_at(&UNIQUE_MNEMONICS, k, name)?;
+        return Some(whole(named));
     }
     let k = k - unique;
     let declaratives = DECLARATIVES.len();
@@ -222,19 +185,19 @@ fn operation_of(name: &[u8]) -> Option<Operation>
 fn searched_operation(name: &[u8]) -> Option<Operation>
     ensures { result ≡ value_by_name operations name.now }
 {
-    if let Some(opcode) = opcode_of(name) {
-        return Some(instruction(opcode, None));
+    if let Some(row) = row_of(name) {
+        return Some(plain(row));
     }
-    if let Some((opcode, q)) = unique_mnemonic(name) {
-        return Some(instruction(opcode, Some(q)));
+    if let Some(named) = unique_mnemonic(name) {
+        return Some(whole(named));
     }
     let declarative = declarative(name)?;
     Some(Operation::Declare(declarative))
 }
 
-// The opcode of an instruction's mnemonic or of its two digits.
+// The row of an instruction, by its mnemonic or the two digits of its opcode.
 #[tactic(auto, using(crate::proofs::Joined::opcode_by_table))]
-fn opcode_of(name: &[u8]) -> Option<u8>
+fn row_of(name: &[u8]) -> Option<InstructionRow>
     ensures { result ≡ value_by_name opcodes name.now }
 {
     let by_mnemonic = mnemonic(name);
@@ -244,18 +207,18 @@ fn opcode_of(name: &[u8]) -> Option<u8>
     digits(name)
 }
 
-// The opcode of a mnemonic.
-fn mnemonic(name: &[u8]) -> Option<u8>
+// The row of a mnemonic.
+fn mnemonic(name: &[u8]) -> Option<InstructionRow>
     ensures { result ≡ value_by_name mnemonics name.now }
 {
-    find(&MNEMONICS, name)
+    find(&INSTRUCTIONS, name)
 }
 
-// The opcode that has these two digits.
-fn digits(name: &[u8]) -> Option<u8>
+// The row whose opcode has these two digits.
+fn digits(name: &[u8]) -> Option<InstructionRow>
     ensures { result ≡ value_by_name (map by_digits mnemonics) name.now }
 {
-    find_digits(&MNEMONICS, name)
+    find_digits(&INSTRUCTIONS, name)
 }
 
 // The opcode and the Q of a unique mnemonic.
@@ -272,14 +235,14 @@ fn declarative(name: &[u8]) -> Option<Declarative>
     find(&DECLARATIVES, name)
 }
 
-// The opcode of the first row whose opcode has these two digits.
+// The first row whose opcode has these two digits.
 #[tactic(auto, unfolding(line_words::specs::Rows::value_by_name))]
-fn find_digits(rows: &[(&str, u8)], name: &[u8]) -> Option<u8>
+fn find_digits(rows: &[(&str, InstructionRow)], name: &[u8]) -> Option<InstructionRow>
     ensures { result ≡ value_by_name (map by_digits (map row_from_table rows.now)) name.now }
 {
-    for (_, opcode) in rows {
-        if name == two_digits(*opcode).as_slice() {
-            return Some(*opcode);
+    for (_, row) in rows {
+        if name == two_digits(row.0).as_slice() {
+            return Some(*row);
         }
     }
     None
@@ -292,13 +255,26 @@ fn two_digits(n: u8) -> [u8; 2]
     [b'0' + n / 10, b'0' + n % 10]
 }
 
-// An instruction, whose Q is given where the mnemonic says it.
-fn instruction(opcode: u8, q: Option<u32>) -> Operation
-    ensures { result ≡ instruction opcode q }
+// An instruction by its row. It is immediate, so that its Q7 gets a flag, where Q is a field in the instruction itself.
+fn plain(row: InstructionRow) -> Operation
+    ensures { result ≡ plain row }
 {
+    let InstructionRow(opcode, _, uses, _) = row;
     Operation::Instruction {
         opcode,
-        q,
-        immediate: matches!(opcode, 11 | 12 | 14 | 16 | 17),
+        q: None,
+        immediate: matches!(uses, OperandUse::Field),
+    }
+}
+
+// An instruction by a unique mnemonic, which says its opcode and its whole Q. None of them is immediate.
+fn whole(named: (u8, u32)) -> Operation
+    ensures { result ≡ whole named }
+{
+    let (opcode, q) = named;
+    Operation::Instruction {
+        opcode,
+        q: Some(q),
+        immediate: false,
     }
 }
