@@ -1,6 +1,7 @@
 -- Several cells of a word replaced at once.
-use Rattle.std.proofs.Common.{ℕ, ◌≡◌, ◌+◌, ◌-◌, ◌*◌, ◌/◌, ◌%◌, ◌^◌, ◌<◌, ◌≤◌, ◌⊎◌, inl, inr, sym, ◌∙◌, ap, arith}
-use Rattle.std.proofs.lemmas.Nat.{shr-shr, shr_split, shl_whole, pow-add, pow_pos, mod_below, shr_below, mul-add-lt}
+use Rattle.std.proofs.Common.{ℕ, ◌≡◌, ◌+◌, ◌-◌, ◌*◌, ◌/◌, ◌%◌, ◌^◌, ◌<◌, ◌≤◌, ◌⊎◌, inl, inr, sym, ◌∙◌, ap, arith, bit_xor}
+use Rattle.std.proofs.lemmas.Nat.{shr-shr, shr_split, shl_whole, pow-add, pow_pos, mod_below, shr_below, mul-add-lt, xor_lt, xor_mod, xor_block}
+use Rattle.std.specs.Int.Bits.{xor_assoc, xor_self, xor_zero_r}
 use Rattle.digit_core.specs.Packed.{six, with_part}
 use Rattle.digit_core.proofs.Sixes.{six_of_low, six_of_high, six_cat_low, six_cat_high, word_small}
 use Rattle.digit_core.proofs.Masks.{whole_power}
@@ -71,18 +72,40 @@ module _ (w j n v : ℕ) (hw : w < 2 ^ 60) (within : j + n ≤ 10) where
       let e : w / 2 ^ (6 * j) ≡ top * 2 ^ (6 * n) + old = sym (shr_split (w / 2 ^ (6 * j)) (6 * n)) ∙ ap (λ x. x * 2 ^ (6 * n) + old) s in
       sym (shr_split w (6 * j)) ∙ ap (λ x. x * 2 ^ (6 * j) + w % 2 ^ (6 * j)) e
 
-  old_whole : old * 2 ^ (6 * j) % 2 ^ 64 ≡ old * 2 ^ (6 * j)
-  old_whole = shl_whole old (6 * n) (6 * j) 64 (mod_below (w / 2 ^ (6 * j)) (2 ^ (6 * n)) (pow_pos (6 * n))) (omega arith)
+  -- the bits in which the cells to be replaced and those of the other word differ
+  abbrev new : ℕ
+  new = v % 2 ^ (6 * n)
 
-  new_whole : v % 2 ^ (6 * n) * 2 ^ (6 * j) % 2 ^ 64 ≡ v % 2 ^ (6 * n) * 2 ^ (6 * j)
-  new_whole = shl_whole (v % 2 ^ (6 * n)) (6 * n) (6 * j) 64 (new_low w j n v) (omega arith)
+  old_low : old < 2 ^ (6 * n)
+  old_low = mod_below (w / 2 ^ (6 * j)) (2 ^ (6 * n)) (pow_pos (6 * n))
 
-  old_within : old * 2 ^ (6 * j) % 2 ^ 64 ≤ w
-  old_within = omega (arith, old_whole, split)
+  changed_low : bit_xor old new < 2 ^ (6 * n)
+  changed_low = xor_lt (6 * n) old new old_low (new_low w j n v)
 
-  replaced : w - old * 2 ^ (6 * j) % 2 ^ 64 + v % 2 ^ (6 * n) * 2 ^ (6 * j) % 2 ^ 64 ≡ with_part w j n v
+  changed_whole : bit_xor old new * 2 ^ (6 * j) % 2 ^ 64 ≡ bit_xor old new * 2 ^ (6 * j)
+  changed_whole = shl_whole (bit_xor old new) (6 * n) (6 * j) 64 changed_low (omega arith)
+
+  -- turned round, they are those of the other word
+  turned : bit_xor old (bit_xor old new) ≡ new
+  turned = sym (xor_assoc old old new) ∙ ap (λ x. bit_xor x new) (xor_self old)
+
+  turned_below : bit_xor (top * 2 ^ (6 * n) + old) (bit_xor old new) ≡ top * 2 ^ (6 * n) + new
+  turned_below =
+      let z : bit_xor old new ≡ 0 * 2 ^ (6 * n) + bit_xor old new = omega arith in
+      ap (λ x. bit_xor (top * 2 ^ (6 * n) + old) x) z
+      ∙ xor_block (6 * n) top 0 old (bit_xor old new) old_low changed_low
+      ∙ ap (λ x. x * 2 ^ (6 * n) + bit_xor old (bit_xor old new)) (xor_zero_r top)
+      ∙ ap (λ x. top * 2 ^ (6 * n) + x) turned
+
+  replaced : bit_xor w (bit_xor old new * 2 ^ (6 * j)) ≡ with_part w j n v
   unfolding with_part
-  replaced = omega (arith, old_whole, new_whole, split)
+  replaced =
+      let z : bit_xor old new * 2 ^ (6 * j) ≡ bit_xor old new * 2 ^ (6 * j) + 0 = omega arith in
+      ap (λ x. bit_xor x (bit_xor old new * 2 ^ (6 * j))) split
+      ∙ ap (λ x. bit_xor ((top * 2 ^ (6 * n) + old) * 2 ^ (6 * j) + w % 2 ^ (6 * j)) x) z
+      ∙ xor_block (6 * j) (top * 2 ^ (6 * n) + old) (bit_xor old new) (w % 2 ^ (6 * j)) 0 (low w j n v) (pow_pos (6 * j))
+      ∙ ap (λ x. bit_xor (top * 2 ^ (6 * n) + old) (bit_xor old new) * 2 ^ (6 * j) + x) (xor_zero_r (w % 2 ^ (6 * j)))
+      ∙ ap (λ x. x * 2 ^ (6 * j) + w % 2 ^ (6 * j)) turned_below
 
   -- the same, as the code has it
   abbrev end : ℕ
@@ -94,8 +117,5 @@ module _ (w j n v : ℕ) (hw : w < 2 ^ 60) (within : j + n ≤ 10) where
   pub end_some : 0 < end
   end_some = rw end_is (pow_pos (6 * n))
 
-  pub code_within : w / 2 ^ (6 * j) % end * 2 ^ (6 * j) % 2 ^ 64 ≤ w
-  code_within = rw end_is old_within
-
-  pub code_is : w - w / 2 ^ (6 * j) % end * 2 ^ (6 * j) % 2 ^ 64 + v % end * 2 ^ (6 * j) % 2 ^ 64 ≡ with_part w j n v
-  code_is = rw end_is replaced
+  pub code_is : bit_xor w (bit_xor (w / 2 ^ (6 * j)) v % end * 2 ^ (6 * j) % 2 ^ 64) ≡ with_part w j n v
+  code_is = rw (end_is, xor_mod (w / 2 ^ (6 * j)) v (6 * n), changed_whole) replaced

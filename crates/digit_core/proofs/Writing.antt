@@ -8,7 +8,7 @@ use Rattle.digit_core.specs.Packed.{six, cells_of, with_part}
 use Rattle.digit_core.specs.Written.{cell_with_word, core_with_word}
 use Rattle.digit_core.specs.Copied.{core_after_copy}
 use Rattle.digit_core.proofs.OneWord.{with_word}
-use Rattle.digit_core.proofs.Sixes.{six_of_high, length_cells}
+use Rattle.digit_core.proofs.Sixes.{six_of_low, six_of_high, length_cells}
 use Rattle.digit_core.proofs.Parts.{part_within, part_others}
 use Rattle.digit_core.proofs.Moving.{length_word, word_in, word_out, copied_is}
 use Rattle.digit_core.proofs.Packing.{cells_at, set_word}
@@ -103,6 +103,21 @@ module _ (ws : List ℕ) (i j n w : ℕ) (inside : i < length ws) (within : j + 
             ∙ sym (cells_at ws a i (a % 10) (omega arith) inside (omega arith))
         | inr ne ↦ word_out (cells_of ws) i part a h ne
       ])
+
+-- all cells of one word
+module _ (ws : List ℕ) (i w : ℕ) (inside : i < length ws) where
+  abbrev whole : ℕ
+  whole = w % 2 ^ 60
+
+  pub word_written : cells_of (set ws i whole) ≡ core_with_word (cells_of ws) (10 * i) 10 w
+  word_written =
+      set_word ws i whole inside
+      ∙ written_is (cells_of ws) (10 * i) 10 w (with_word (cells_of ws) i whole) (length_word (cells_of ws) i whole)
+      (λ a h from_a to_end.
+      let e : a % 10 ≡ a - 10 * i = omega arith in
+      word_in (cells_of ws) i whole a (a - 10 * i) h (omega arith) e ∙ six_of_low w 10 (a - 10 * i) (omega arith))
+      (λ a h out.
+      word_out (cells_of ws) i whole a h (λ e. elim out [ inl x ↦ omega arith | inr x ↦ omega arith ]))
 
 -- cells that were written as they stood elsewhere are copied
 pub written_copied : (cells : List ℕ) (to from n w : ℕ) → ((j : ℕ) → j < n → six w j ≡ get_or cells (from + j) 0) → core_with_word cells to n w ≡ core_after_copy cells to from n

@@ -112,6 +112,18 @@ fn put_part(words: &mut [u64], i: usize, j: u32, n: u32, w: u64)
     words[i] = with_part(old, j, n, w);
 }
 
+// Replaces all ten cells of word `i`, whatever it was.
+#[inline(always)]
+fn put_word(words: &mut [u64], i: usize, w: u64)
+    requires room { i < length words.old }
+    requires sixty_bits { All (λ w. w < 2 ^ 60) words.old }
+    ensures cells { cells_of words.new ≡ core_with_word (cells_of words.old) (10 * i) 10 w }
+    ensures length { length words.new ≡ length words.old }
+    ensures sixty_bits { All (λ w. w < 2 ^ 60) words.new }
+{
+    words[i] = w % (1 << 60);
+}
+
 // Replaces ten cells from cell number `j` of word `i` upwards.
 #[inline(always)]
 fn put_ten(words: &mut [u64], i: u32, j: u32, w: u64)
@@ -124,7 +136,7 @@ fn put_ten(words: &mut [u64], i: u32, j: u32, w: u64)
 {
     let i = i as usize;
     if j == 0 {
-        put_part(words, i, 0, 10, w);
+        put_word(words, i, w);
         return;
     }
     let low = 10 - j;

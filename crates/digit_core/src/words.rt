@@ -57,8 +57,9 @@ pub(crate) fn with_part(w: u64, j: u32, n: u32, v: u64) -> u64
 {
     let k = 6 * j;
     let end = 1 << (6 * n);
-    let old = (w >> k) % end;
-    w - (old << k) + ((v % end) << k)
+    // Where the two differ there, the word's own bits are turned round.
+    let changed = ((w >> k) ^ v) % end;
+    w ^ (changed << k)
 }
 
 // The lowest bit of each of the ten cells.
