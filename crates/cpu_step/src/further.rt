@@ -145,8 +145,9 @@ impl<const M: u32> FurtherFields<M> {
         Ok(FurtherFields { entries, followed })
     }
 
-    // The address that an operand comes to whose first field leads to a further one, whose units are at `at`.
-    #[inline(never)]
+    // The address that an operand comes to whose first field leads to a further one, whose units are at `at`. It is no call of its own: what
+    // it answers would have to be put into memory first, to be taken apart again.
+    #[inline(always)]
     pub(crate) fn further(&mut self, core: &Core<M>, at: u32) -> Result<u32, Stop>
         requires field { 4 ≤ at }
         requires in_core { at < size M }
