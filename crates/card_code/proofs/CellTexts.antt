@@ -3,7 +3,6 @@ use Rattle.std.proofs.Common.{◌≡◌, ℕ, zero, suc, ◌+◌, ◌<◌, ◌�
 use Rattle.std.proofs.lemmas.List.{map-append, length-append, length-take, length-drop}
 use Rattle.std.proofs.lemmas.Bool.Decides.{nat_tests}
 use borrow.Rule.Slice.PartMut.{put_mid}
-use Rattle.std.specs.Prelude.{Option, Some, None, MatchOption, IfSome}
 use Rattle.digit_core.specs.declared.Digit.{Digit}
 use Rattle.digit_core.specs.declared.CellFault.{CellFault}
 use Rattle.digit_core.specs.Cell.{read_cell}
@@ -12,7 +11,6 @@ use Rattle.addr_indirect.specs.declared.Stop.{Stop}
 use Rattle.addr_indirect.specs.Steps.{◌>>=◌}
 use Rattle.addr_indirect.specs.Reading.{read_at, read_up, or_stop}
 use Rattle.traces.specs.Trace.{map_answer}
-use Rattle.digit_core.specs.Within.{HasBad}
 use Rattle.card_code.specs.Words.{AreChars}
 
 -- a reading, and then another
@@ -100,11 +98,6 @@ module _ (char_of : Digit → ℕ) where
       let ten = are.ten in
       let all = cells_text core chars a (omega arith) (λ j below. let e = cells j (omega arith) in rw (← e) (are.chars_are j (omega arith))) in
       rw ten at all
-
-  -- where it has them
-  pub ten_read : (core : List ℕ) (a w : ℕ) (r : Option (List ℕ)) → a + 10 ≤ length core → MatchOption r (HasBad w) (AreChars char_of w) → ((j : ℕ) → j < 10 → six w j ≡ get_or core (a + j) 0) → IfSome r (λ chars. map_answer (map char_of) (read_up core a 10) ≡ Ok chars)
-  ten_read core a w None room says cells = tt
-  ten_read core a w (Some chars) room says cells = ten_chars_are core chars a w room says cells
 
 -- a part that is written leaves a text as long as it was
 pub put_long : (k n : ℕ) (text chars : List ℕ) → n ≡ 10 → k + 10 ≤ length text → length chars ≡ 10 → length (put_mid k n text chars) ≡ length text

@@ -19,7 +19,7 @@ pub use lines::{LineAnswer, Lines, More};
 pub use pairs::{alpha_of, char_of_pair, punch_alpha};
 pub use storing::{store_digits, store_pairs};
 pub use text::Line;
-pub use words::{object_chars, object_word, punch_chars, put_object_chars};
+pub use words::{object_chars, object_word, punch_chars, put_object_chars, put_punch_chars};
 
 /// The text of a card: 80 columns, a byte for each.
 ///

@@ -91,9 +91,12 @@ pub fn punch_chars(word: u64) -> Option<[u8; 10]>
     }
 }
 
-// Puts the characters that the digits of a word's ten cells are punched as into a text. Whether each cell is good.
+/// Puts the characters that the digits of a word's ten cells are punched as into a text of ten bytes, the lowest cell's first.
+///
+/// `false` where one of the cells is bad; then nothing is said of the text.
+/// Source: 1622 manual, numerical writing; the characters of flags and marks are this project's own.
 #[inline]
-fn put_punch_chars(word: u64, into: &mut [u8]) -> bool
+pub fn put_punch_chars(word: u64, into: &mut [u8]) -> bool
     requires { length into.old ≡ 10 }
     ensures puts { PutsChars punch_num word into.new result }
     ensures ten { length into.new ≡ 10 }

@@ -1,13 +1,15 @@
 -- The texts of cards that are punched.
-use Rattle.std.proofs.Common.{◌≡◌, ℕ, suc, ◌+◌, ◌*◌, ◌-◌, ◌<◌, ◌≤◌, true, nat_lt, List, [], ◌∷◌, ◌++◌, length, map, take, drop, set, replicate, Result, Ok, Err, refl, sym, ◌∙◌, ap, arith, append_assoc}
+use Rattle.std.proofs.Common.{◌≡◌, ℕ, suc, ◌+◌, ◌*◌, ◌-◌, ◌<◌, ◌≤◌, Bool, true, false, nat_lt, List, [], ◌∷◌, ◌++◌, length, map, take, drop, set, replicate, Result, Ok, Err, refl, sym, ◌∙◌, ap, arith, append_assoc}
 use Rattle.std.proofs.lemmas.List.{take_more_set, take-append-drop, drop-set-lt, drop-drop, drop-replicate, length-take-le, append-nil}
 use Rattle.std.proofs.lemmas.Slice.{take-put_mid, drop-put_mid}
+use Rattle.std.proofs.lemmas.Bool.{false≢true}
 use Rattle.std.proofs.lemmas.Bool.Decides.{nat_tests}
 use borrow.Rule.Slice.PartMut.{put_mid}
 use Rattle.std.specs.Prelude.{Option, Some, None}
 use Rattle.digit_core.specs.declared.Digit.{Digit}
 use Rattle.digit_core.specs.Cell.{read_cell}
 use Rattle.digit_core.specs.Packed.{six}
+use Rattle.digit_core.specs.Search.{is_bad}
 use Rattle.indicators.specs.declared.Panel.{Panel}
 use Rattle.indicators.specs.Lamps.{panel_after}
 use Rattle.addr_indirect.specs.declared.Stop.{Stop}
@@ -16,6 +18,7 @@ use Rattle.addr_indirect.specs.Reading.{read_at, read_up}
 use Rattle.traces.specs.Trace.{Trace, map_answer, with_answer}
 use Rattle.card_code.specs.Characters.{punch_num}
 use Rattle.card_code.specs.Entries.{text_as_card}
+use Rattle.card_code.specs.Words.{AreChars, PutsChars}
 use Rattle.card_code.specs.TextOut.{Output, with_pair, written_char, panel_after_pair, pair_char, lamps_of}
 use Rattle.card_code.proofs.CellTexts.{up_parts, go_over}
 use Rattle.card_unit.specs.Punch.{pair_text, HasGoodTen}
@@ -101,6 +104,11 @@ module _ (core : List ℕ) (a count k : ℕ) (columns : List ℕ) where
   digits_read all =
       let none_left : count - k ≡ 0 = omega arith in
       rw none_left (ap Ok (append-nil (take k columns)))
+
+-- the characters of a word's good cells were put
+pub good_put : (w : ℕ) (chars : List ℕ) (all : Bool) → ((j : ℕ) → j < 10 → is_bad (six w j) ≡ false) → PutsChars punch_num w chars all → AreChars punch_num w chars
+good_put w chars true good puts = puts
+good_put w chars false good puts = absurd (false≢true (sym (good puts.place puts.ten) ∙ puts.bad))
 
 -- From these characters and this panel on, the rest gives and shows what the whole does from the start.
 pub record Going (xs : List ℕ) (panel : Panel) (t : Trace Output (List ℕ) Stop) (start : Panel) (whole : Trace Output (List ℕ) Stop) : Type 0 where

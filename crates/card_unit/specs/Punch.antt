@@ -54,15 +54,8 @@ abbrev pub card_text : Result Card Stop → Result (List ℕ) Stop
 card_text result = map_answer (λ card. card.0) result
 
 -- the columns of n digits from a upwards, and the card that they fill
-abbrev pub digit_columns : List ℕ → ℕ → ℕ → Result (List ℕ) Stop
-digit_columns core a n = map_answer (map punch_num) (read_up core a n)
-
 abbrev pub columns_text : List ℕ → ℕ → ℕ → Result (List ℕ) Stop
 columns_text core a n = map_answer (λ ds. text_as_card (map punch_num ds)) (read_up core a n)
-
--- these are the columns of the ten digits from a upwards
-abbrev pub AreTenColumns : List ℕ → ℕ → List ℕ → Type 0
-AreTenColumns core a chars = digit_columns core a 10 ≡ Ok chars
 
 -- the word w has the ten cells from a upwards, and each of them holds a digit
 pub record HasGoodTen (core : List ℕ) (a w : ℕ) : Type 0 where

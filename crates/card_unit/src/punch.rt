@@ -6,13 +6,13 @@ ghost use Rattle.outside_io.specs.Whole.{Sends};
 ghost use Rattle.indicators.specs.Lamps.{panel_after};
 ghost use Rattle.addr_indirect.specs.Reading.{read_at};
 ghost use Rattle.card_code.specs.TextOut.{lamps_of};
-ghost use Rattle.card_unit.specs.Punch.{card_text, punch_numeric, pair_text, punch_alphameric, punch_dump, card_line, columns_text, AreTenColumns, HasGoodTen};
+ghost use Rattle.card_unit.specs.Punch.{card_text, punch_numeric, pair_text, punch_alphameric, punch_dump, card_line, columns_text, HasGoodTen};
 ghost use Rattle.card_unit.specs.CardCalls.{Punches, PunchesPairs};
 ghost use Rattle.digit_core.specs.declared.TheConstants.{MOST_POSITIONS};
 
 use crate::reader::CardIo;
 use addr_indirect::{Stop, read_at};
-use card_code::{Card, char_of_pair, punch_chars};
+use card_code::{Card, char_of_pair, put_punch_chars};
 use digit_core::{Core, Digit, are_good, digit_in};
 use indicators::Panel;
 use outside_io::{Host, Sent, Unit, write_all};
@@ -112,8 +112,9 @@ fn digits_card<const M: u32>(core: &Core<M>, a: u32, count: usize) -> Result<Car
     while k < count {
         let at = a + k as u32;
         match ten_columns(core, at, count - k) {
-            Some(chars) => {
-                columns[k..k + 10].copy_from_slice(&chars);
+            Some(word) => {
+                // Each of the word's cells is good, and so has a character.
+                let _ = put_punch_chars(word, &mut columns[k..k + 10]);
                 k += 10;
             }
             None => {
@@ -125,17 +126,16 @@ fn digits_card<const M: u32>(core: &Core<M>, a: u32, count: usize) -> Result<Car
     Ok(Card(columns))
 }
 
-// The characters of the ten cells from `at` upwards, where so many of the digits are left, and core has ten good cells there.
+// The word of the ten cells from `at` upwards, where so many of the digits are left, and core has ten good cells there.
 #[inline]
-fn ten_columns<const M: u32>(core: &Core<M>, at: u32, left: usize) -> Option<[u8; 10]>
+fn ten_columns<const M: u32>(core: &Core<M>, at: u32, left: usize) -> Option<u64>
     ensures more { IfSome result (λ _. 10 ≤ left) }
-    ensures chars { IfSome result (AreTenColumns core.now at) }
+    ensures held { IfSome result (HasGoodTen core.now at) }
 {
-    let size = core.size();
-    if left < 10 || size - 10 < at {
+    if left < 10 {
         return None;
     }
-    punch_chars(core.ten(at))
+    good_ten(core, at)
 }
 
 // The card of the 80 pairs from `a` upwards.

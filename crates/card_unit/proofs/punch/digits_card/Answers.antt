@@ -1,26 +1,28 @@
-use Rattle.std.proofs.Common.{◌≡◌, ◌+◌, ◌-◌, length, drop, sym, ◌∙◌, ap, arith, length-set, List, ℕ, Result, Ok}
-use Rattle.std.proofs.lemmas.List.{length-take, length-drop}
+use Rattle.std.proofs.Common.{◌≡◌, ◌+◌, ◌-◌, sym, ◌∙◌, ap, arith, length-set, List, ℕ, Result, Ok}
 use Rattle.std.proofs.lemmas.Result.{err_from_is_err_and}
 use Rattle.addr_indirect.specs.declared.Stop.{Stop}
 use Rattle.addr_indirect.specs.Reading.{read_up}
 use Rattle.traces.specs.Trace.{map_answer}
 use Rattle.card_code.specs.Entries.{text_as_card}
-use Rattle.card_code.proofs.CellTexts.{put_long}
-use Rattle.card_unit.proofs.CardsPunched.{blank_on, blank_past, filled_columns, joined_then, digit_stop, digit_on, ten_on, digits_read}
+use Rattle.card_code.specs.Characters.{punch_num}
+use Rattle.card_code.proofs.CellTexts.{put_long, ten_chars_are}
+use Rattle.card_unit.proofs.CardsPunched.{good_put, blank_on, blank_past, filled_columns, joined_then, digit_stop, digit_on, ten_on, digits_read}
 use Rattle.card_unit.proofs.punch.digits_card.Goals as goal
 
 pub loop-k-preserved-in-Some : goal.loop-k-preserved-in-Some
 loop-k-preserved-in-Some g c =
     let room = c.in-Some.ensures.more in
+    let held = c.in-Some.ensures.held in
     let all = c.loop-k.invariant.all in
     let n : c.loop-k.k + 10 - c.loop-k.k ≡ 10 = omega arith in
-    let part = length-take (c.loop-k.k + 10 - c.loop-k.k) (drop c.loop-k.k c.loop-k.columns) in
-    let long : length c.copy_from_slice.new.self ≡ 10 = omega (arith, c.copy_from_slice.ensures.len, part, length-drop c.loop-k.k c.loop-k.columns) in
+    let put = c.put_punch_chars.new.into in
+    let long = c.put_punch_chars.ensures.ten in
+    let chars = good_put c.in-Some.word put c.put_punch_chars.result held.good c.put_punch_chars.ensures.puts in
     record {
       within = omega arith;
-      all = put_long c.loop-k.k _ c.loop-k.columns c.copy_from_slice.new.self n (omega arith) long ∙ all;
-      blank = blank_past c.loop-k.k _ c.loop-k.columns c.copy_from_slice.new.self n (long ∙ sym n) (omega arith) c.loop-k.invariant.blank;
-      rest = sym (ten_on c.args.core.now c.args.a c.args.count c.loop-k.k c.loop-k.columns _ c.copy_from_slice.new.self (omega arith) long (omega arith) (rw c.copy_from_slice.ensures.after c.in-Some.ensures.chars)) ∙ c.loop-k.invariant.rest;
+      all = put_long c.loop-k.k _ c.loop-k.columns put n (omega arith) long ∙ all;
+      blank = blank_past c.loop-k.k _ c.loop-k.columns put n (long ∙ sym n) (omega arith) c.loop-k.invariant.blank;
+      rest = sym (ten_on c.args.core.now c.args.a c.args.count c.loop-k.k c.loop-k.columns _ put (omega arith) long (omega arith) (ten_chars_are punch_num c.args.core.now put (c.args.a + c.loop-k.k) c.in-Some.word held.room chars held.cells)) ∙ c.loop-k.invariant.rest;
     }
 
 pub returns-in_err-read_at-in-None : goal.returns-in_err-read_at-in-None
