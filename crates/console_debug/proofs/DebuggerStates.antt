@@ -29,7 +29,7 @@ use Rattle.sps_pass_two.specs.Assembled.{PlacedText}
 use Rattle.console_debug.specs.Session.{Course, Act, Line, Turn, Session, nth_place, place_as_seen, says, goes_to, turns_from, session_events}
 use Rattle.console_debug.specs.CursorStates.{CursorState, IsOn, IsFit, IsLed}
 use Rattle.console_debug.specs.Debugs.{Attends, is_said}
-use Rattle.console_debug.specs.Carries.{DebuggerState, debugger_state, StandsIn, StopsIn, IsOver, Does, Fails, Carries}
+use Rattle.console_debug.specs.Carries.{DebuggerState, debugger_state, StandsIn, StopsIn, IsOver, Does, Fails, Carries, Underway}
 use Rattle.console_debug.proofs.Stepping.{count_told}
 use Rattle.console_debug.proofs.Acts.{turns_append, turns_line, turns_of, turns_take, text_takes, did_turns, did_cut, acts_on, act_on, part_on, acts_take, act_takes, part_takes}
 use Rattle.console_debug.proofs.Onward.{Onward, MakesTurns, next_turn}
@@ -189,12 +189,6 @@ module _ (m : ℕ) (c : Course) (n f : ℕ) (x : CursorState m) (on_it : IsOn m 
   steps_here = count_told m x.at x.seen.world (nth_place c n) (nth_place c f) on_it.told
 
 -- One part after another.
-
--- parts of a session are done: of what the first function gives, the second is left
-pub record Underway (m limit : ℕ) (placed : List PlacedText) (f g : Course → Session → Session) (first now : DebuggerState m) : Type 0 where
-  pub told : (c : Course) → IsOver limit placed c → (start : World) (s : Session) → StandsIn m c first start s → (t : Session) × StandsIn m c now start t × (f c s ≡ g c t)
-  pub fit : IsFit m limit now.cursor_state
-  pub frames : Attends m first.cursor_state.at.machine now.cursor_state.at.machine first.cursor_state.seen now.cursor_state.seen
 
 -- within a move the host failed, in a turn behind so many others from the furthest place on, all of which the function makes
 pub record IsBroken (m : ℕ) (c : Course) (f : Course → Session → Session) (s : Session) (x : CursorState m) : Type 0 where

@@ -45,7 +45,7 @@ step_kept m limit x count some few there c n f within on_it =
     let which : led.0 ≡ nat_lt x.at.steps count = led_by_count c.limit (nth_place c n) (nth_place c (suc n)) led.0 led.1 ∙ ap (λ j. nat_lt j (nth_place c (suc n)).steps) here ∙ ap (λ j. nat_lt x.at.steps j) (sym count_is) in
     subst (λ j. is_step (turn j (nth_place c n)) ≡ nat_lt x.at.steps count) within (ap is_step led.1 ∙ step_by led.0 (nth_place c (suc n)) ∙ which)
 
-no_step : (q : RunPlace) (rs : List Reached) → turns_to_step (record { place = q; by_step = false } ∷ rs) ≡ option_map suc (turns_to_step rs)
+pub no_step : (q : RunPlace) (rs : List Reached) → turns_to_step (record { place = q; by_step = false } ∷ rs) ≡ option_map suc (turns_to_step rs)
 unfolding turns_to_step
 no_step q rs = refl
 

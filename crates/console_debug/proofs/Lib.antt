@@ -10,11 +10,13 @@ pub mod Looking
 pub mod StoredCells
 pub mod Heading
 pub mod Stops
+pub mod KeptMoves
 pub mod KeptStops
 pub mod Acts
 pub mod Onward
 pub mod DebuggerStates
 pub mod PlaceLines
 pub mod StepByStep
+pub mod KeptSteps
 pub mod Commanding
 pub mod WholeSessions

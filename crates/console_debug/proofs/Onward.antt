@@ -1,11 +1,11 @@
 -- Each command goes on, and so does a session: what it has done stays done, and the turns up to where it goes are made first.
 use Rattle.std.proofs.Common.{◌≡◌, ◌∙◌, ℕ, zero, suc, ◌+◌, ◌≤◌, Bool, true, false, List, [], ◌∷◌, ◌++◌, length, refl, sym, ap, append_assoc, arith}
 use Rattle.std.proofs.lemmas.List.{append-nil}
-use Rattle.std.specs.Prelude.{Option, Some, None, nat_le, ◌-◌, ◌&&◌, if◌then◌else◌}
+use Rattle.std.specs.Prelude.{Option, Some, None, nat_le, max, option_map, ◌-◌, ◌&&◌, if◌then◌else◌}
 use Rattle.console_debug.specs.declared.commands.DebugCommand.{DebugCommand}
 use Rattle.console_debug.specs.declared.commands.DebugCommand.TheVariants as command
 use Rattle.console_debug.specs.Places.{is_instruction, turns_to_step, turns_to_stop}
-use Rattle.console_debug.specs.Session.{Course, Act, Turn, Session, places_ahead, turns_from, says, goes_to, to_end, to_stop, session_after_step, steps, back, is_kept, session_after, is_quit, session_of}
+use Rattle.console_debug.specs.Session.{Course, Act, Turn, Session, nth_place, places_ahead, turns_from, says, place_line, end_line, goes_to, to_end, to_stop, session_after_step, steps, back, is_kept, session_after, is_quit, session_of}
 use Rattle.console_debug.specs.CursorStates.{turns_or_all}
 use Rattle.console_debug.proofs.Acts.{turns_more, turns_next}
 
@@ -90,6 +90,41 @@ session_onward [] c s = onward_same s
 session_onward (x ∷ xs) c s =
     let next = session_after x c s in
     either_onward s s (session_of xs c next) (is_quit x) (onward_same s) (onward_then s next (session_of xs c next) (commanded_onward x c s) (session_onward xs c next))
+
+-- to a place, and from there on to a later one
+pub goes_twice : (a b : ℕ) (s : Session) → a ≤ b → goes_to b (goes_to a s) ≡ goes_to b s
+goes_twice a b s order =
+    let f = s.furthest in
+    let j = a - f in
+    let k = b - max f a in
+    let from : max f a ≡ f + j = omega arith in
+    let both : j + k ≡ b - f = omega (arith, order) in
+    let furthest : max (max f a) b ≡ max f b = omega (arith, order) in
+    let acts : (s.acts ++ turns_from f j) ++ turns_from (max f a) k ≡ s.acts ++ turns_from f (b - f) =
+    append_assoc s.acts (turns_from f j) (turns_from (max f a) k)
+    ∙ ap (λ (xs : List Act). s.acts ++ xs) (ap (λ i. turns_from f j ++ turns_from i k) from ∙ sym (turns_more f j k) ∙ ap (turns_from f) both) in
+    ap (λ (xs : List Act). record s { at = b; furthest = max (max f a) b; acts = xs }) acts
+    ∙ ap (λ i. record s { at = b; furthest = i; acts = s.acts ++ turns_from f (b - f) }) furthest
+
+-- one place on by a turn that is no step, STEP does what it did before
+abbrev made_from : Course → ℕ → ℕ → Session → Session
+made_from c n j u = steps n c (goes_to (j + 1) (says (place_line (nth_place c j)) u))
+
+by_rest : (c : Course) (n : ℕ) (s : Session) (p : Option ℕ) → length (places_ahead c s.at) ≡ suc (length (places_ahead c (s.at + 1)))
+    → step_by c n s (option_map suc p) ≡ step_by c n (goes_to (s.at + 1) s) p
+by_rest c n s None longer =
+    let last = s.at + 1 + length (places_ahead c (s.at + 1)) in
+    let same : s.at + length (places_ahead c s.at) ≡ last = omega (arith, longer) in
+    ap (λ j. says (end_line (nth_place c j)) (goes_to j s)) same
+    ∙ ap (says (end_line (nth_place c last))) (sym (goes_twice (s.at + 1) last s (omega arith)))
+by_rest c n s (Some k) longer =
+    let there = s.at + 1 + k in
+    let same : s.at + suc k ≡ there = omega arith in
+    ap (λ j. made_from c n j (goes_to j s)) same ∙ ap (made_from c n there) (sym (goes_twice (s.at + 1) there s (omega arith)))
+
+pub steps_acted : (c : Course) (n : ℕ) (s : Session) (o p : Option ℕ) → o ≡ option_map suc p → length (places_ahead c s.at) ≡ suc (length (places_ahead c (s.at + 1)))
+    → step_by c n s o ≡ step_by c n (goes_to (s.at + 1) s) p
+steps_acted c n s o p is longer = ap (step_by c n s) is ∙ by_rest c n s p longer
 
 -- TURNS THAT ARE MADE: behind what a session has done, so many turns come first.
 pub record MakesTurns (s : Session) (k : ℕ) (t : Session) : Type 0 where

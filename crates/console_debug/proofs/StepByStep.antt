@@ -15,10 +15,10 @@ use Rattle.console_debug.specs.Lines.{at_line, ending_line}
 use Rattle.console_debug.specs.Places.{turns_to_step}
 use Rattle.console_debug.specs.Session.{Course, Session, nth_place, places_ahead, goes_to, steps}
 use Rattle.console_debug.specs.CursorStates.{CursorState, IsOn, IsFit, MovesOn, StaysOn, BreaksOn, Advances, IsStepAhead, ToAStep, ToTheEnd, BreaksOnTheWay}
-use Rattle.console_debug.specs.Carries.{DebuggerState, debugger_state, Does, Fails, Carries, step_on}
+use Rattle.console_debug.specs.Carries.{DebuggerState, debugger_state, Does, Fails, Carries, step_on, Underway}
 use Rattle.console_debug.proofs.Looking.{stays_fit, stays_attends}
 use Rattle.console_debug.proofs.Onward.{MakesTurns, step_by, steps_by, steps_onward, goes_onward, goes_makes, step_makes}
-use Rattle.console_debug.proofs.DebuggerStates.{Underway, still_on, fails_first, goes_on, does_first, ends_with, all_done, moved, broke, broken_at}
+use Rattle.console_debug.proofs.DebuggerStates.{still_on, fails_first, goes_on, does_first, ends_with, all_done, moved, broke, broken_at}
 use Rattle.console_debug.proofs.PlaceLines.{says_at, says_end, at_said, end_said}
 
 -- one place on

@@ -63,7 +63,7 @@ fit_place limit ks i k all inside is = subst (IsFitPlace limit) (get_or_from_sli
 pub if_some : {A : Type 0} (P : A → Type 0) (o : Option A) (x : A) → o ≡ Some x → IfSome o P → P x
 if_some {A = A} P o x is holds = subst (λ (p : Option A). IfSome p P) is holds
 
-some_holds : {A : Type 0} (P : A → Type 0) (o : Option A) (x : A) → o ≡ Some x → P x → IfSome o P
+pub some_holds : {A : Type 0} (P : A → Type 0) (o : Option A) (x : A) → o ≡ Some x → P x → IfSome o P
 some_holds {A = A} P o x is holds = subst (λ (p : Option A). IfSome p P) (sym is) holds
 
 newest_is : (ks : List Kept) (k : Kept) → slice_get ks (length ks - 1) ≡ Some k → newest_count ks ≡ k.steps

@@ -18,11 +18,11 @@ use Rattle.console_debug.specs.declared.commands.DebugCommand.{DebugCommand}
 use Rattle.console_debug.specs.Grammar.{is_break}
 use Rattle.console_debug.specs.Session.{Course, Session, session_after, is_quit, session_of, at_first}
 use Rattle.console_debug.specs.CursorStates.{CursorState, cursor_state, kept_at_place, IsOn, IsFitPlace, IsFit}
-use Rattle.console_debug.specs.Carries.{DebuggerState, debugger_state, StandsIn, Does, Fails}
+use Rattle.console_debug.specs.Carries.{DebuggerState, debugger_state, StandsIn, Does, Fails, Underway}
 use Rattle.console_debug.specs.Debugs.{task, course_of, without_count, StandsBy, StandsWithin, EndsSession, BreaksSession}
 use Rattle.console_debug.proofs.Stepping.{kept_told}
 use Rattle.console_debug.proofs.Onward.{session_onward}
-use Rattle.console_debug.proofs.DebuggerStates.{Underway, begins, goes_on, does_first, ends_with, all_done, fails_first}
+use Rattle.console_debug.proofs.DebuggerStates.{begins, goes_on, does_first, ends_with, all_done, fails_first}
 
 -- the commands from one on that is no QUIT
 front_of : (x : DebugCommand) (xs left : List DebugCommand) (c : Course) (s : Session) → left ≡ x ∷ xs → is_quit x ≡ false → session_of left c s ≡ session_of xs c (session_after x c s)

@@ -1,5 +1,5 @@
 -- What the commands of a session do to where it stands, its breakpoints and its host.
-use Rattle.std.specs.Prelude.{ℕ, ◌≡◌, ◌+◌, Bool, true, false, List, drop, vec_len}
+use Rattle.std.specs.Prelude.{ℕ, ◌≡◌, ◌+◌, Bool, true, false, List, drop, vec_len, Option, Some, None}
 use Rattle.outside_io.specs.declared.host.Unit.TheVariants as units
 use Rattle.outside_io.specs.declared.whole.Sent.{Sent}
 use Rattle.outside_io.specs.declared.whole.Sent.TheVariants as sent
@@ -13,7 +13,7 @@ use Rattle.console_debug.specs.declared.debugger.Debugger.{Debugger}
 use Rattle.console_debug.specs.Breakpoints.{HasTables, HasRoomIn, set_now}
 use Rattle.console_debug.specs.Lines.{no_statement_line}
 use Rattle.console_debug.specs.Places.{is_instruction}
-use Rattle.console_debug.specs.Session.{Course, Session, nth_place, says, goes_to, place_line, session_events, turns_in}
+use Rattle.console_debug.specs.Session.{Course, Session, nth_place, says, goes_to, place_line, session_events, steps, turns_in}
 use Rattle.console_debug.specs.CursorStates.{CursorState, cursor_state_of, IsSameCursor, IsOn, IsFit}
 use Rattle.console_debug.specs.Debugs.{Attends, StandsWithin}
 
@@ -82,6 +82,17 @@ pub record Fails (m limit : ℕ) (placed : List PlacedText) (f : Course → Sess
 abbrev pub Carries : (m limit : ℕ) → List PlacedText → (Course → Session → Session) → DebuggerState m → DebuggerState m → Sent → Type 0
 Carries m limit placed f old new sent.Done = Does m limit placed f old new
 Carries m limit placed f old new sent.Failed = Fails m limit placed f old new
+
+-- parts of a session are done: of what the first function gives, the second is left
+pub record Underway (m limit : ℕ) (placed : List PlacedText) (f g : Course → Session → Session) (first now : DebuggerState m) : Type 0 where
+  pub told : (c : Course) → IsOver limit placed c → (start : World) (s : Session) → StandsIn m c first start s → (t : Session) × StandsIn m c now start t × (f c s ≡ g c t)
+  pub fit : IsFit m limit now.cursor_state
+  pub frames : Attends m first.cursor_state.at.machine now.cursor_state.at.machine first.cursor_state.seen now.cursor_state.seen
+
+-- so many steps over kept places: how many of them are left, or the host failed
+abbrev pub StepsOver : (m limit : ℕ) → List PlacedText → ℕ → DebuggerState m → DebuggerState m → Option ℕ → Type 0
+StepsOver m limit placed count old new (Some left) = Underway m limit placed (steps count) (steps left) old new
+StepsOver m limit placed count old new None = Fails m limit placed (steps count) old new
 
 -- The move that a step is.
 

@@ -159,6 +159,12 @@ pub record IsAtKept (m : ℕ) (old new : Machine m) (count : ℕ) (k : Kept) : T
   pub machine : new ≡ machine_at m k old
   pub count_is : count ≡ k.steps
 
+-- it is at the place behind which so many are kept: where it stood before, or at a kept place that was gone to
+abbrev pub IsThere : (m : ℕ) → CursorState m → Machine m → ℕ → ℕ → Type 0
+IsThere m old machine steps behind =
+    ((behind ≡ old.behind) × (machine ≡ old.at.machine) × (steps ≡ old.at.steps))
+    ⊎ ((behind < old.behind) × IfSome (slice_get old.kept (length old.kept - 1 - behind)) (IsAtKept m old.at.machine machine steps))
+
 -- whether a step comes next from where it stands
 abbrev pub IsStepAhead : (m limit : ℕ) → CursorState m → Bool → Type 0
 IsStepAhead m limit x answer =

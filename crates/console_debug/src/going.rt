@@ -3,7 +3,7 @@ ghost use Rattle.std.specs.Prelude.{◌<◌, ℕ, List, true, length};
 ghost use Rattle.sps_listing.specs.Listing.{placed_texts};
 ghost use Rattle.sps_pass_two.specs.Assembled.{PlacedText};
 ghost use Rattle.console_debug.specs.Breakpoints.{HasTables, set_now};
-ghost use Rattle.console_debug.specs.Carries.{Carries, debugger_state, step_on};
+ghost use Rattle.console_debug.specs.Carries.{Carries, StepsOver, debugger_state, step_on};
 ghost use Rattle.console_debug.specs.Session as does;
 ghost use Rattle.console_debug.specs.CursorStates.{IsFit, IsSameCursor, IsStepAhead, cursor_state_of};
 
@@ -56,7 +56,11 @@ impl<const M: u32> Cursor<'_, '_, M> {
             let after = debugger_state M (cursor_state_of M self.new (H.seen host.new)) breaks in
             Carries M self.old.run.limit placed (does.steps count) before after result }
     {
-        for _step in 0..count {
+        let left = match self.step_kept(count, host) {
+            Some(left) => left,
+            None => return Sent::Failed,
+        };
+        for _step in 0..left {
             match self.to_step(host) {
                 Came::There => {}
                 Came::End(how) => {
@@ -71,6 +75,41 @@ impl<const M: u32> Cursor<'_, '_, M> {
             }
         }
         Sent::Done
+    }
+
+    // So many steps over the places that are kept, each behind its line, as far as these places lead; how many steps are left, or None where
+    // the host failed. The machine is brought to the place where this ends alone.
+    fn step_kept<H: Host>(&mut self, count: u64, host: &mut H) -> Option<u64>
+        requires { IsFit M self.old.run.limit (cursor_state_of M self.old (H.seen host.old)) }
+        ensures same { IsSameCursor M self.old self.new }
+        ensures carries { (placed : List PlacedText) (breaks : List ℕ) →
+            let before = debugger_state M (cursor_state_of M self.old (H.seen host.old)) breaks in
+            let after = debugger_state M (cursor_state_of M self.new (H.seen host.new)) breaks in
+            StepsOver M self.old.run.limit placed count before after result }
+    {
+        let mut left = count;
+        let mut ir = self.run.machine.regs.ir;
+        let mut steps = self.run.steps;
+        let mut behind = self.behind;
+        while left > 0 && behind > 0 {
+            let i = self.rewind.len() - behind;
+            let next = self.rewind.count_at(i);
+            if next > steps {
+                match write_all(host, Unit::Report, at_line(ir, steps).as_bytes()) {
+                    Sent::Done => {}
+                    Sent::Failed => {
+                        self.go_up_to(behind);
+                        return None;
+                    }
+                }
+                left -= 1;
+            }
+            behind -= 1;
+            ir = self.rewind.regs_at(i).ir;
+            steps = next;
+        }
+        self.go_up_to(behind);
+        Some(left)
     }
 
     // The line of the step that comes next, and the step.

@@ -1,8 +1,8 @@
 // Where a session stands among the places of a run: moves from one place to the next, be it made by a turn or kept, and back to a kept one.
-ghost use Rattle.std.specs.Prelude.{◌≡◌, ℕ, ◌<◌, ◌+◌, ◌-◌, IfSome, length, slice_get};
+ghost use Rattle.std.specs.Prelude.{◌≡◌, ℕ, ◌<◌, ◌≤◌, ◌+◌, ◌-◌, IfSome, length, slice_get};
 ghost use Rattle.outside_io.specs.World.{Seen};
 ghost use Rattle.operator_script.specs.Run.{IsSameRun, standing_of};
-ghost use Rattle.console_debug.specs.CursorStates.{Advances, Backs, GoesToKept, IsAtKept, IsFit, IsSameCursor, IsStepAhead, KeepsScriptAndPlaces, cursor_state_at, cursor_state_of};
+ghost use Rattle.console_debug.specs.CursorStates.{Advances, Backs, GoesToKept, IsAtKept, IsFit, IsSameCursor, IsStepAhead, IsThere, KeepsScriptAndPlaces, cursor_state_at, cursor_state_of};
 
 use crate::keeping::keep_step;
 use operator_script::{Run, TurnEnd};
@@ -86,6 +86,22 @@ impl<const M: u32> Cursor<'_, '_, M> {
         self.run.steps = self.rewind.count_at(i);
         let machine = &mut *self.run.machine;
         self.rewind.restore(i, machine);
+    }
+
+    // On to the kept place behind which so many are kept, where it does not stand there.
+    pub(crate) fn go_up_to(&mut self, behind: u32)
+        requires order { behind ≤ self.old.behind }
+        requires few { self.old.behind < length self.old.rewind.now }
+        ensures same { KeepsScriptAndPlaces M self.old self.new }
+        ensures behind { self.new.behind ≡ behind }
+        ensures there { (seen : Seen) →
+            IsThere M (cursor_state_of M self.old seen) self.new.run.machine.now self.new.run.steps behind }
+    {
+        if behind < self.behind {
+            let newest = self.rewind.len() - 1;
+            self.behind = behind;
+            self.go_to_kept(newest - behind);
+        }
     }
 
     // Whether a step comes next.

@@ -15,8 +15,8 @@ use Rattle.std.proofs.lemmas.Grind.{common_steps}
 use Rattle.console_debug.specs.Debugs.{SessionTask, task, without_count, EndsSession, BreaksSession}
 use Rattle.console_debug.specs.Session.{session_of}
 use Rattle.console_debug.specs.CursorStates.{cursor_state}
-use Rattle.console_debug.specs.Carries.{debugger_state, debugger_state_of}
-use Rattle.console_debug.proofs.DebuggerStates.{Underway, begins}
+use Rattle.console_debug.specs.Carries.{debugger_state, debugger_state_of, Underway}
+use Rattle.console_debug.proofs.DebuggerStates.{begins}
 use Rattle.console_debug.proofs.WholeSessions.{command_done, command_failed, command_quits, none_left, room_left, first_cursor_state, first_fit, session_ended, session_broke}
 use Rattle.console_debug.proofs.debugger.carry_out_all.Goals as goal
 

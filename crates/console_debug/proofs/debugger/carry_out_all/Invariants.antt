@@ -5,8 +5,7 @@ use Rattle.console_debug.specs.Breakpoints.{HasTables, HasRoomIn, HasSameRoom}
 use Rattle.console_debug.specs.Grammar.{is_break}
 use Rattle.console_debug.specs.CommandLists.{command_list}
 use Rattle.console_debug.specs.Session.{session_of}
-use Rattle.console_debug.specs.Carries.{IsSameDebugger, debugger_state, debugger_state_of}
-use Rattle.console_debug.proofs.DebuggerStates.{Underway}
+use Rattle.console_debug.specs.Carries.{IsSameDebugger, debugger_state, debugger_state_of, Underway}
 use Rattle.console_debug.proofs.WholeSessions.{first_cursor_state}
 use Rattle.console_debug.proofs.debugger.carry_out_all.Given as goal
 

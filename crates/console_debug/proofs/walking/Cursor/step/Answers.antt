@@ -5,8 +5,8 @@ use Rattle.outside_io.specs.declared.whole.Sent.TheVariants as sent
 use Rattle.outside_io.specs.Whole.{Sends}
 use Rattle.console_debug.specs.Session.{steps}
 use Rattle.console_debug.specs.CursorStates.{cursor_state_of}
-use Rattle.console_debug.specs.Carries.{debugger_state}
-use Rattle.console_debug.proofs.DebuggerStates.{begins, goes_on, ends_with}
+use Rattle.console_debug.specs.Carries.{debugger_state, Underway}
+use Rattle.console_debug.proofs.DebuggerStates.{goes_on, ends_with}
 use Rattle.console_debug.proofs.StepByStep.{then_steps, steps_left, steps_done, stepped_out, step_broke, to_a_step, step_then, step_failed}
 use Rattle.console_debug.proofs.walking.Cursor.step.Goals as goal
 
@@ -14,13 +14,21 @@ one_left : (count i : ℕ) → i < count → count - i ≡ suc (count - (i + 1))
 one_left count i below = omega arith
 
 pub loop-step-init : goal.loop-step-init
-loop-step-init g c = record {
-  same = ((refl, refl, refl), refl);
-  under = λ placed breaks.
-      let all : c.args.count ≡ c.args.count - 0 = omega arith in
-      let first = debugger_state g.row.M (cursor_state_of g.row.M c.args.self.now (g.H.Host.seen c.args.host.now)) breaks in
-      begins g.row.M c.args.self.now.run.limit placed (steps c.args.count) (steps (c.args.count - 0)) first (λ x s. ap (λ k. steps k x s) all) c.requires;
-}
+loop-step-init g c =
+    let same = c.step_kept.ensures.same in
+    record {
+      same = same;
+      under = λ placed breaks.
+          let m = g.row.M in
+          let all : c.in-Some.left ≡ c.in-Some.left - 0 = omega arith in
+          let first = debugger_state m (cursor_state_of m c.args.self.now (g.H.Host.seen c.args.host.now)) breaks in
+          let now = debugger_state m (cursor_state_of m c.step_kept.new.self (g.H.Host.seen c.step_kept.new.host)) breaks in
+          rw (same.0.2)
+          (subst (λ k. Underway m c.args.self.now.run.limit placed (steps c.args.count) (steps k) first now) all (c.in-Some.ensures.carries placed breaks));
+    }
+
+pub returns-in-None-clause-carries : goal.returns-in-None-clause-carries
+returns-in-None-clause-carries g c = λ placed breaks. c.in-None.ensures.carries placed breaks
 
 pub to_step-requires : goal.to_step-requires
 to_step-requires g c = (lit< tt, (c.loop-step.invariant.under [] []).fit)
@@ -35,13 +43,13 @@ pub returns-in-End-clause-carries : goal.returns-in-End-clause-carries
 returns-in-End-clause-carries g c = λ placed breaks.
     let m = g.row.M in
     let limit = c.loop-step.self.run.limit in
-    let n = c.args.count - (c.loop-step._step + 1) in
+    let n = c.in-Some.left - (c.loop-step._step + 1) in
     let all = steps c.args.count in
     let first = debugger_state m (cursor_state_of m c.args.self.now (g.H.Host.seen c.args.host.now)) breaks in
     let here = cursor_state_of m c.loop-step.self (g.H.Host.seen c.loop-step.host) in
     let there = cursor_state_of m c.to_step.new.self (g.H.Host.seen c.to_step.new.host) in
     let after = g.H.Host.seen c.write_all.new.host in
-    let under = steps_left m limit placed (c.args.count - c.loop-step._step) (suc n) all first (debugger_state m here breaks) (one_left c.args.count c.loop-step._step c.loop-step-test.true) (c.loop-step.invariant.under placed breaks) in
+    let under = steps_left m limit placed (c.in-Some.left - c.loop-step._step) (suc n) all first (debugger_state m here breaks) (one_left c.in-Some.left c.loop-step._step c.loop-step-test.true) (c.loop-step.invariant.under placed breaks) in
     rw (sym c.loop-step.invariant.same.0.2)
     (ends_with m limit placed all (steps (suc n)) first (debugger_state m here breaks) (debugger_state m (record there { seen = after }) breaks) c.write_all.result under
     (stepped_out m limit placed n breaks here there c.in-End.how after c.write_all.result c.in-End.ensures.steps
@@ -51,12 +59,12 @@ pub returns-in-Fault-clause-carries : goal.returns-in-Fault-clause-carries
 returns-in-Fault-clause-carries g c = λ placed breaks.
     let m = g.row.M in
     let limit = c.loop-step.self.run.limit in
-    let n = c.args.count - (c.loop-step._step + 1) in
+    let n = c.in-Some.left - (c.loop-step._step + 1) in
     let all = steps c.args.count in
     let first = debugger_state m (cursor_state_of m c.args.self.now (g.H.Host.seen c.args.host.now)) breaks in
     let here = cursor_state_of m c.loop-step.self (g.H.Host.seen c.loop-step.host) in
     let there = cursor_state_of m c.to_step.new.self (g.H.Host.seen c.to_step.new.host) in
-    let under = steps_left m limit placed (c.args.count - c.loop-step._step) (suc n) all first (debugger_state m here breaks) (one_left c.args.count c.loop-step._step c.loop-step-test.true) (c.loop-step.invariant.under placed breaks) in
+    let under = steps_left m limit placed (c.in-Some.left - c.loop-step._step) (suc n) all first (debugger_state m here breaks) (one_left c.in-Some.left c.loop-step._step c.loop-step-test.true) (c.loop-step.invariant.under placed breaks) in
     rw (sym c.loop-step.invariant.same.0.2)
     (ends_with m limit placed all (steps (suc n)) first (debugger_state m here breaks) (debugger_state m there breaks) sent.Failed under (step_broke m limit placed n breaks here there c.in-Fault.ensures.steps))
 
@@ -64,13 +72,13 @@ pub returns-in-Failed-clause-carries : goal.returns-in-Failed-clause-carries
 returns-in-Failed-clause-carries g c = λ placed breaks.
     let m = g.row.M in
     let limit = c.loop-step.self.run.limit in
-    let n = c.args.count - (c.loop-step._step + 1) in
+    let n = c.in-Some.left - (c.loop-step._step + 1) in
     let all = steps c.args.count in
     let first = debugger_state m (cursor_state_of m c.args.self.now (g.H.Host.seen c.args.host.now)) breaks in
     let here = cursor_state_of m c.loop-step.self (g.H.Host.seen c.loop-step.host) in
     let there = cursor_state_of m c.to_step.new.self (g.H.Host.seen c.to_step.new.host) in
     let last = cursor_state_of m c.make_step.new.self (g.H.Host.seen c.make_step.new.host) in
-    let under = steps_left m limit placed (c.args.count - c.loop-step._step) (suc n) all first (debugger_state m here breaks) (one_left c.args.count c.loop-step._step c.loop-step-test.true) (c.loop-step.invariant.under placed breaks) in
+    let under = steps_left m limit placed (c.in-Some.left - c.loop-step._step) (suc n) all first (debugger_state m here breaks) (one_left c.in-Some.left c.loop-step._step c.loop-step-test.true) (c.loop-step.invariant.under placed breaks) in
     let on = goes_on m limit placed all (steps (suc n)) (then_steps m limit placed n breaks here there) first (debugger_state m here breaks) (debugger_state m there breaks) under (to_a_step m limit placed n breaks here there c.in-There.ensures.steps) in
     rw (sym c.loop-step.invariant.same.0.2)
     (step_failed m limit placed n breaks here there all first (debugger_state m last breaks) on (rw (c.to_step.ensures.same.0.2) at c.in-Failed.ensures.carries placed breaks))
@@ -85,13 +93,13 @@ loop-step-preserved g c =
       under = λ placed breaks.
           let m = g.row.M in
           let limit = c.loop-step.self.run.limit in
-          let n = c.args.count - (c.loop-step._step + 1) in
+          let n = c.in-Some.left - (c.loop-step._step + 1) in
           let all = steps c.args.count in
           let first = debugger_state m (cursor_state_of m c.args.self.now (g.H.Host.seen c.args.host.now)) breaks in
           let here = cursor_state_of m c.loop-step.self (g.H.Host.seen c.loop-step.host) in
           let there = cursor_state_of m c.to_step.new.self (g.H.Host.seen c.to_step.new.host) in
           let last = cursor_state_of m c.make_step.new.self (g.H.Host.seen c.make_step.new.host) in
-          let under = steps_left m limit placed (c.args.count - c.loop-step._step) (suc n) all first (debugger_state m here breaks) (one_left c.args.count c.loop-step._step c.loop-step-test.true) (c.loop-step.invariant.under placed breaks) in
+          let under = steps_left m limit placed (c.in-Some.left - c.loop-step._step) (suc n) all first (debugger_state m here breaks) (one_left c.in-Some.left c.loop-step._step c.loop-step-test.true) (c.loop-step.invariant.under placed breaks) in
           let on = goes_on m limit placed all (steps (suc n)) (then_steps m limit placed n breaks here there) first (debugger_state m here breaks) (debugger_state m there breaks) under (to_a_step m limit placed n breaks here there c.in-There.ensures.steps) in
           rw (made.0.2, to.0.2)
           (step_then m limit placed n breaks here there all first (debugger_state m last breaks) on (rw (to.0.2) at c.in-Done.ensures.carries placed breaks));
@@ -99,9 +107,9 @@ loop-step-preserved g c =
 
 pub returns-clause-carries : goal.returns-clause-carries
 returns-clause-carries g c = λ placed breaks.
-    let none : c.args.count - c.loop-step._step ≡ 0 = omega (arith, c.loop-step-test.false) in
+    let none : c.in-Some.left - c.loop-step._step ≡ 0 = omega (arith, c.loop-step-test.false) in
     let m = g.row.M in
     let first = debugger_state m (cursor_state_of m c.args.self.now (g.H.Host.seen c.args.host.now)) breaks in
     let here = cursor_state_of m c.loop-step.self (g.H.Host.seen c.loop-step.host) in
     rw (sym c.loop-step.invariant.same.0.2)
-    (steps_done m c.loop-step.self.run.limit placed (c.args.count - c.loop-step._step) (steps c.args.count) first (debugger_state m here breaks) none (c.loop-step.invariant.under placed breaks))
+    (steps_done m c.loop-step.self.run.limit placed (c.in-Some.left - c.loop-step._step) (steps c.args.count) first (debugger_state m here breaks) none (c.loop-step.invariant.under placed breaks))
