@@ -1,6 +1,7 @@
 -- Cells in words: ten cells of six bits to a word, from its lowest bits upwards.
-use Rattle.std.specs.Prelude.{ℕ, Bool, true, ⊤, ◌≡◌, ◌<◌, ◌+◌, ◌-◌, ◌*◌, ◌/◌, ◌%◌, ◌^◌, List, length, map, sum, slice_index, nat_lt, ◌&&◌, if◌then◌else◌}
+use Rattle.std.specs.Prelude.{ℕ, Bool, true, ⊤, Vec, vec_len, vec_capacity, [], ◌≡◌, ◌≤◌, ◌<◌, ◌+◌, ◌-◌, ◌*◌, ◌/◌, ◌%◌, ◌^◌, List, length, map, sum, slice_index, nat_lt, ◌&&◌, if◌then◌else◌}
 use Rattle.std.specs.List.{All, range_with_len}
+use Rattle.std.specs.declared.alloc.Global.{Global}
 use Rattle.digit_core.specs.Size.{IsSize}
 use Rattle.digit_core.specs.Search.{IsSound}
 use Rattle.digit_core.specs.Standard.{HasAddTable}
@@ -47,6 +48,13 @@ pub record IsPacked (m : ℕ) (ws : List ℕ) (sound : Bool) (table : AddTable) 
   pub sixty_bits : All (λ w. w < 2 ^ 60) ws
   pub is_sound : sound ≡ true → IsSound (cells_of ws)
   pub is_known : IsKnown table (cells_of ws)
+
+-- an empty list with room for the words of a core of size m
+pub record IsRoom (m : ℕ) (words : Vec ℕ Global) : Type 0 where
+  pub is_size : IsSize m
+  pub empty : words.items ≡ []
+  pub none : vec_len words ≡ 0
+  pub room : m * MODULE_WORDS ≤ vec_capacity words
 
 -- a word with its six bits number j replaced
 unfoldable pub with_six : ℕ → ℕ → ℕ → ℕ

@@ -107,6 +107,11 @@ module _ (m : ℕ) where
       ap (λ (xs : List (LogEntry m)). places_of_entries m new xs) (take_all most_places (e ∷ left) room) ∙ places_pushed core new e left before
       ∙ ap (λ (xs : List (LogEntry m)). places_of_entries m core xs ++ place_of_entry m new e ∷ []) is ∙ oldest_gone core es (place_of_entry m new e)
 
+-- what is so of it is so of what follows from it
+pub some_too : {A : Type 0} (P Q : A → Type 0) (o : Option A) → ((x : A) → P x → Q x) → IfSome o P → IfSome o Q
+some_too P Q None follows holds = tt
+some_too P Q (Some x) follows holds = follows x holds
+
 -- a number below the length has its element
 pub not_past : {X : Type 0} (xs : List X) (i : ℕ) → i < length xs → None ≡ slice_get xs i → ⊥
 not_past [] i inside none = absurd (omega (arith, inside))

@@ -1,5 +1,5 @@
 -- How kept places are held: the core of the newest, and for each place the words in which the one before it differed.
-use Rattle.std.specs.Prelude.{ℕ, ◌≡◌, ◌+◌, ◌-◌, ◌*◌, ◌≤◌, ◌==◌, List, [], ◌∷◌, ◌++◌, length, take, if◌then◌else◌}
+use Rattle.std.specs.Prelude.{ℕ, ⊤, ◌≡◌, ◌+◌, ◌-◌, ◌*◌, ◌≤◌, ◌==◌, List, [], ◌∷◌, ◌++◌, length, take, if◌then◌else◌}
 use Rattle.std.specs.List.{All}
 use Rattle.digit_core.specs.{IsSize, core_mixture, size}
 use Rattle.circular_buffer.specs.Buffer.{Buffer}
@@ -28,8 +28,8 @@ pub record IsWithin (m : ℕ) (e : LogEntry m) : Type 0 where
   pub order : e.from ≤ e.to
   pub room : e.to ≤ m * 2000
 
--- what is always so of the fields: each place has its entry, or a core is spared for it
-pub record IsHeld (m : ℕ) (latest : List ℕ) (entries : Buffer (LogEntry m)) (spare : List (List ℕ)) : Type 0 where
+-- what is always so of the fields: each place has its entry, or room for its core is spared
+pub record IsHeld (m : ℕ) (latest : List ℕ) (entries : Buffer (LogEntry m)) (spare : List ⊤) : Type 0 where
   pub is_size : IsSize m
   pub capacity : entries.capacity ≡ most_places
   pub all : length entries.items + length spare ≡ most_places

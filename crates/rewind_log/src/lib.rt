@@ -13,7 +13,7 @@ ghost use Rattle.rewind_log.specs.declared.LogEntry.{LogEntry};
 use branch_ops::Regs;
 use circular_buffer::HeapCircularBuffer;
 use cpu_step::{Machine, Mode};
-use digit_core::Core;
+use digit_core::{Core, CoreRoom};
 use disk_1311::DRIVES;
 use indicators::Panel;
 use std::alloc::{AllocError, Global};
@@ -48,8 +48,8 @@ pub struct Rewind<const M: u32> {
     entries: HeapCircularBuffer<LogEntry<M>>,
     // The core of the newest.
     latest: Core<M>,
-    // A core for each place that may still be kept without dropping one.
-    spare: Vec<Core<M>>,
+    // Room for the core of each place that may still be kept without dropping one.
+    spare: Vec<CoreRoom<M>>,
 }
 
 impl<const M: u32> Model for Rewind<M> {
@@ -67,7 +67,8 @@ impl<const M: u32> Model for Rewind<M> {
 impl<const M: u32> Rewind<M> {
     /// Room for all places, none of which is kept yet.
     ///
-    /// `M` is 1, 2 or 3. It takes about 16,000,000 bytes for each unit of `M`; no other call takes memory. The error is want of memory.
+    /// `M` is 1, 2 or 3. It takes about 16,000,000 bytes for each unit of `M`, which are reserved, and touched as places are kept; no other call
+    /// takes memory. The error is want of memory.
     /// Source: this project's own.
     pub fn new(alloc: Global) -> Result<Self, AllocError>
         requires { IsSize M }
@@ -75,7 +76,7 @@ impl<const M: u32> Rewind<M> {
     {
         let mut spare = Vec::with_capacity(alloc, PLACES)?;
         for _place in 0..PLACES {
-            spare.push_reserved(Core::new(alloc)?);
+            spare.push_reserved(CoreRoom::new(alloc)?);
         }
         Ok(Rewind {
             entries: HeapCircularBuffer::with_capacity(alloc, PLACES)?,
@@ -102,10 +103,7 @@ impl<const M: u32> Rewind<M> {
         requires { i < length self.now }
         ensures { IfSome (slice_get self.now i) (λ k. result ≡ k.steps) }
     {
-        match self.entries.get(self.entries.len() - 1 - i as usize) {
-            Some(entry) => entry.steps,
-            None => unreachable!(),
-        }
+        self.entry_at(i).steps
     }
 
     /// The registers of the place number `i`, of which the oldest is number 0.
@@ -116,10 +114,7 @@ impl<const M: u32> Rewind<M> {
         requires { i < length self.now }
         ensures { IfSome (slice_get self.now i) (λ k. result ≡ k.regs) }
     {
-        match self.entries.get(self.entries.len() - 1 - i as usize) {
-            Some(entry) => entry.regs,
-            None => unreachable!(),
-        }
+        self.entry_at(i).regs
     }
 
     /// The mode of the place number `i`, of which the oldest is number 0.
@@ -130,8 +125,16 @@ impl<const M: u32> Rewind<M> {
         requires { i < length self.now }
         ensures { IfSome (slice_get self.now i) (λ k. result ≡ k.mode) }
     {
+        self.entry_at(i).mode
+    }
+
+    // The entry of the place number `i`.
+    fn entry_at(&self, i: u32) -> &LogEntry<M>
+        requires { i < length self.now }
+        ensures { IfSome (slice_get self.now i) (λ k. k ≡ place_of_entry M k.core result.now) }
+    {
         match self.entries.get(self.entries.len() - 1 - i as usize) {
-            Some(entry) => entry.mode,
+            Some(entry) => entry,
             None => unreachable!(),
         }
     }
@@ -230,10 +233,10 @@ fn stand_at<const M: u32>(
     }
 }
 
-// A core for one place more: a spare one, or that of the oldest place, which is dropped.
-fn room_for_one<const M: u32>(
+// A core for one place more: one in room that was spared, or that of the oldest place, which is dropped. What its cells are says nothing.
+fn core_for_one<const M: u32>(
     entries: &mut HeapCircularBuffer<LogEntry<M>>,
-    spare: &mut Vec<Core<M>>,
+    spare: &mut Vec<CoreRoom<M>>,
 ) -> Core<M>
     requires all { length entries.old.items + length spare.old.items ≡ most_places }
     ensures capacity { entries.new.capacity ≡ entries.old.capacity }
@@ -241,7 +244,7 @@ fn room_for_one<const M: u32>(
     ensures all { length entries.new.items + length spare.new.items + 1 ≡ most_places }
 {
     match spare.pop() {
-        Some(core) => core,
+        Some(room) => room.core(),
         None => match entries.pop_back() {
             Some(oldest) => {
                 let LogEntry { old, .. } = oldest;
@@ -256,7 +259,7 @@ fn room_for_one<const M: u32>(
 fn push<const M: u32>(
     entries: &mut HeapCircularBuffer<LogEntry<M>>,
     latest: &mut Core<M>,
-    spare: &mut Vec<Core<M>>,
+    spare: &mut Vec<CoreRoom<M>>,
     machine: &Machine<M>,
     steps: u64,
     from: u32,
@@ -272,7 +275,7 @@ fn push<const M: u32>(
 {
     latest.size_law();
     machine.core.size_law();
-    let mut old = room_for_one(entries, spare);
+    let mut old = core_for_one(entries, spare);
     old.size_law();
     old.copy_words(latest, from, to);
     latest.copy_words(&machine.core, from, to);

@@ -17,7 +17,7 @@ returns-clause-places g c =
     let from = 10 * c.args.from in
     let to = 10 * c.args.to in
     let long : length core ≡ length latest = c.size_law-2.ensures.length ∙ sym c.size_law.ensures.length in
-    let long_old : length c.room_for_one-old.result ≡ length latest = c.size_law-3.ensures.length ∙ sym c.size_law.ensures.length in
+    let long_old : length c.core_for_one-old.result ≡ length latest = c.size_law-3.ensures.length ∙ sym c.size_law.ensures.length in
     let now : c.copy_words-2.new.self ≡ core = c.copy_words-2.ensures ∙ mixed_all latest core from to long c.requires.same in
     let e : LogEntry m = record {
       regs = c.args.machine.now.regs;
@@ -29,8 +29,8 @@ returns-clause-places g c =
       to = c.args.to;
       old = c.copy_words.new.self;
     } in
-    let before : core_before m core e ≡ latest = ap (λ (x : List ℕ). core_mixture core x from to) c.copy_words.ensures ∙ mixed_back latest core c.room_for_one-old.result from to long long_old c.requires.same in
+    let before : core_before m core e ≡ latest = ap (λ (x : List ℕ). core_mixture core x from to) c.copy_words.ensures ∙ mixed_back latest core c.core_for_one-old.result from to long long_old c.requires.same in
     ap (λ (b : Buffer (LogEntry m)). places_of_entries m c.copy_words-2.new.self b.items) c.push_front.ensures.items
-    ∙ ap (λ (x : List ℕ). places_of_entries m x (take c.room_for_one-old.new.entries.capacity (e ∷ c.room_for_one-old.new.entries.items))) now
-    ∙ ap (λ n. places_of_entries m core (take n (e ∷ c.room_for_one-old.new.entries.items))) (c.room_for_one-old.ensures.capacity ∙ c.requires.held.capacity)
-    ∙ place_kept m latest core es c.room_for_one-old.new.entries.items e c.room_for_one-old.ensures.items (omega (arith, c.room_for_one-old.ensures.all)) before
+    ∙ ap (λ (x : List ℕ). places_of_entries m x (take c.core_for_one-old.new.entries.capacity (e ∷ c.core_for_one-old.new.entries.items))) now
+    ∙ ap (λ n. places_of_entries m core (take n (e ∷ c.core_for_one-old.new.entries.items))) (c.core_for_one-old.ensures.capacity ∙ c.requires.held.capacity)
+    ∙ place_kept m latest core es c.core_for_one-old.new.entries.items e c.core_for_one-old.ensures.items (omega (arith, c.core_for_one-old.ensures.all)) before

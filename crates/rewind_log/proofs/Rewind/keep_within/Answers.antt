@@ -12,4 +12,4 @@ push-requires g c =
     newest_core g.row.M c.self.inside.latest c.args.machine.now.core c.self.inside.entries.items (10 * c.args.from) (10 * c.args.to)
     (subst (λ (ks : List Kept). 0 < length ks) (sym c.self.view_is) c.requires.some)
     (subst (λ (ks : List Kept). IfSome (newest ks) (λ k. AgreeOutside k.core c.args.machine.now.core (10 * c.args.from) (10 * c.args.to))) (sym c.self.view_is) c.requires.same) in
-    (lit< tt, (lit< tt, (lit< tt, (c.self.invariant, (c.requires.order, (c.requires.room, same))))))
+    (lit< tt, (lit< tt, (lit< tt, (lit< tt, (c.self.invariant, (c.requires.order, (c.requires.room, same)))))))
