@@ -3,7 +3,7 @@ use crate::marks::bad_column;
 use crate::sheet::{Columns, OPERANDS};
 use crate::slips::{LongName, Slip};
 use line_words::trimmed;
-use sps_ops::Rule;
+use sps_ops::{Declarative, Operation, Rule, most_parts};
 use sps_pass_one::part_at;
 use sps_scan::{Statement, scan};
 
@@ -51,17 +51,6 @@ fn most_length(operation: &[u8]) -> Option<u32> {
     }
 }
 
-// How many parts an operation has at most, and so how many commas stand in front of its remark.
-fn most_parts(operation: &[u8]) -> usize {
-    match operation {
-        b"DSA" => 10,
-        b"DDA" => 4,
-        b"DS" | b"DSS" | b"DAS" | b"DNB" => 2,
-        b"DGM" | b"DORG" | b"DEND" => 1,
-        _ => 3,
-    }
-}
-
 // That a declaration with one part needs two.
 fn no_comma<'s>(s: &Statement<'s>) -> Option<Slip<'s>> {
     let operation = trimmed(s.operation);
@@ -88,13 +77,12 @@ fn up_to_bad_column(line: &[u8]) -> Option<&[u8]> {
 
 // The remark in a part; a DAC has none in its text, which may have blanks.
 fn remark_in<'s>(s: &Statement<'s>, part: &'s [u8]) -> Option<Slip<'s>> {
-    let operation = trimmed(s.operation);
-    if matches!(operation, b"DAC") || !has_words(part) {
+    if matches!(s.found, Some(Operation::Declare(Declarative::Dac))) || !has_words(part) {
         return None;
     }
     Some(Slip::Remark {
-        operation,
-        commas: most_parts(operation),
+        operation: trimmed(s.operation),
+        commas: most_parts(s.found),
     })
 }
 

@@ -8,6 +8,6 @@ mod operation;
 mod rule;
 mod table;
 
-pub use operation::{Declarative, Operation};
+pub use operation::{Declarative, Operation, most_parts};
 pub use rule::{RULES, Rule, RuleRow, Sentence};
 pub use table::lookup;

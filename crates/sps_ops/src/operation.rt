@@ -1,4 +1,6 @@
 // What an operation is.
+ghost use Rattle.std.specs.Prelude.{◌≡◌, ◌≤◌};
+ghost use Rattle.sps_ops.specs.Parts.{parts_declared, most_parts};
 
 /// What a statement's operation says.
 ///
@@ -51,4 +53,41 @@ pub enum Declarative {
     Dend,
     /// HEAD, the head of the symbols that follow.
     Head,
+}
+
+impl Declarative {
+    /// The greatest number of parts that its operands have.
+    ///
+    /// Source: SPS manual, declarative operations; the numbers are this project's own.
+    pub fn most_parts(self) -> usize
+        ensures is { result ≡ parts_declared self }
+        ensures some { 1 ≤ result }
+        ensures ten { result ≤ 10 }
+    {
+        match self {
+            Declarative::Dsa => 10,
+            Declarative::Dda => 4,
+            Declarative::Dc
+            | Declarative::Dsc
+            | Declarative::Dac
+            | Declarative::Dsb
+            | Declarative::Head => 3,
+            Declarative::Ds | Declarative::Dss | Declarative::Das | Declarative::Dnb => 2,
+            Declarative::Dgm | Declarative::Dorg | Declarative::Dend => 1,
+        }
+    }
+}
+
+/// The greatest number of parts that the operands of a statement have: 3 for an instruction, and where there is no such operation.
+///
+/// Source: this project's own.
+pub fn most_parts(operation: Option<Operation>) -> usize
+    ensures is { result ≡ most_parts operation }
+    ensures some { 1 ≤ result }
+    ensures ten { result ≤ 10 }
+{
+    match operation {
+        Some(Operation::Declare(d)) => d.most_parts(),
+        _ => 3,
+    }
 }

@@ -13,7 +13,7 @@ use crate::placing::{nothing_at, placing_of};
 use line_words::trimmed;
 use outside_io::split_line;
 use sps_expr::{Scope, Symbols, is_name};
-use sps_ops::{Declarative, Operation, Rule, lookup};
+use sps_ops::{Declarative, Operation, Rule};
 use sps_scan::{Shape, Statement, scan};
 use std::alloc::{AllocError, Global};
 use std::marker::Model;
@@ -91,7 +91,7 @@ pub fn counts_if(ended: bool, shape: Shape) -> bool
 pub fn operation_of(s: &Statement<'_>) -> Option<Operation>
     ensures { result ≡ operation_of (statement_text s.now) }
 {
-    lookup(s.operation)
+    s.found
 }
 
 // What a statement does at a location; nothing where it does not count.
@@ -101,16 +101,14 @@ fn placing_if(
     symbols: &Symbols,
     at: u64,
     s: &Statement<'_>,
-    operation: Option<Operation>,
 ) -> Placing
-    requires at { at < 10 ^ 15 }
-    requires operation { operation ≡ operation_of (statement_text s.now) }
+    requires { at < 10 ^ 15 }
     ensures is { result ≡ placing_if active head symbols.now at (statement_text s.now) }
     ensures next { result.next ≤ at + 9999900000 }
     ensures label { result.label ≤ at + 9999900000 }
 {
     if active {
-        placing_of(at, head, symbols, s, operation)
+        placing_of(at, head, symbols, s, operation_of(s))
     } else {
         nothing_at(at)
     }
@@ -167,17 +165,7 @@ fn is_end(operation: Option<Operation>) -> bool
 pub fn ends_if(ended: bool, active: bool, s: &Statement<'_>) -> bool
     ensures { result ≡ ends_if ended active (statement_text s.now) }
 {
-    ends_by(ended, active, operation_of(s))
-}
-
-/// Whether a DEND that counts stands before the next statement, by the operation of this one.
-///
-/// `ended` and `active` say what they say for [`ends_if`], which looks the operation up.
-/// Source: this project's own.
-pub fn ends_by(ended: bool, active: bool, operation: Option<Operation>) -> bool
-    ensures { result ≡ (ended || (active && is_end operation)) }
-{
-    ended || active && is_end(operation)
+    ended || active && is_end(operation_of(s))
 }
 
 // Whether an operation is HEAD.
@@ -194,23 +182,7 @@ fn is_head(operation: Option<Operation>) -> bool
 pub fn head_after(head: Option<u8>, active: bool, s: &Statement<'_>) -> Option<u8>
     ensures { result ≡ head_after head active (statement_text s.now) }
 {
-    head_by(head, active, s, operation_of(s))
-}
-
-/// The head in force behind a statement whose operation was looked up.
-///
-/// `head` and `active` say what they say for [`head_after`], which looks the operation up.
-/// Source: this project's own.
-pub fn head_by(
-    head: Option<u8>,
-    active: bool,
-    s: &Statement<'_>,
-    operation: Option<Operation>,
-) -> Option<u8>
-    requires { operation ≡ operation_of (statement_text s.now) }
-    ensures { result ≡ head_after head active (statement_text s.now) }
-{
-    if active && is_head(operation) {
+    if active && is_head(operation_of(s)) {
         match head_faults(None, s) {
             None => head_in(s),
             Some(_) => head,
@@ -244,8 +216,7 @@ pub fn locate(alloc: Global, source: &[u8]) -> Result<Located, AllocError>
         };
         let s = scan(line);
         let active = counts_if(ended, s.shape);
-        let operation = operation_of(&s);
-        let placing = placing_if(active, head, &symbols, at, &s, operation);
+        let placing = placing_if(active, head, &symbols, at, &s);
         places.push(Place {
             location: at as i64,
             label: placing.label as i64,
@@ -257,8 +228,8 @@ pub fn locate(alloc: Global, source: &[u8]) -> Result<Located, AllocError>
             statement: number,
         };
         define_label(alloc, active, head, &mut symbols, &label)?;
-        head = head_by(head, active, &s, operation);
-        ended = ends_by(ended, active, operation);
+        head = head_after(head, active, &s);
+        ended = ends_if(ended, active, &s);
         at = placing.next;
         number += 1;
         rest = behind;

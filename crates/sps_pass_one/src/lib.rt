@@ -20,8 +20,8 @@ pub use fault::{Fault, broken_at_if, broken_if};
 pub use heads::head_faults;
 pub use laws::{known_law, least_law, measure_law};
 pub use layout::{
-    Layout, Located, MOST_STATEMENTS, Places, counts_if, ends_by, ends_if, head_after, head_by,
-    is_label, lay_out, locate, operation_of,
+    Layout, Located, MOST_STATEMENTS, Places, counts_if, ends_if, head_after, is_label, lay_out,
+    locate, operation_of,
 };
 pub use operands::{Answered, Measured, answer, in_bounds, is_blank, lacks, measure, part_at};
 pub use place::{Place, Placing};

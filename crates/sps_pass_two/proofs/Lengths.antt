@@ -1,10 +1,9 @@
 -- A statement that breaks no rule declares as many digits as its place says, and they lie within the image.
-use Rattle.std.proofs.Common.{◌≡◌, ℕ, zero, suc, ◌+◌, ◌-◌, ◌*◌, ◌≤◌, ◌==◌, ◌&&◌, ◌||◌, ◌⊎◌, inl, inr, Bool, true, false, not, List, [], ◌∷◌, ◌++◌, length, take, drop, replicate, refl, ap, ◌∙◌, arith, Option, Some, None, is_some, Result, Ok, Err, nat_lt, bytes_eq}
-use Rattle.std.specs.Prelude.{ℤ, pos, negsuc, int_le, nat_abs, unwrap_or, ⊤, codes}
+use Rattle.std.proofs.Common.{◌≡◌, ℕ, zero, suc, ◌+◌, ◌-◌, ◌*◌, ◌≤◌, ◌==◌, ◌&&◌, ◌||◌, ◌⊎◌, inl, inr, Bool, true, false, not, List, [], ◌∷◌, ◌++◌, length, take, drop, replicate, refl, ap, ◌∙◌, arith, Option, Some, None, is_some, Result, Ok, Err, nat_lt}
+use Rattle.std.specs.Prelude.{ℤ, pos, negsuc, int_le, nat_abs, unwrap_or, ⊤}
 use Rattle.std.specs.List.{list_all}
 use Rattle.std.proofs.lemmas.Bool.Decides.{nat_tests}
 use Rattle.std.proofs.lemmas.List.{length-append, length-replicate, length-take}
-use Rattle.std.proofs.lemmas.Slice.Eq.{bytes_eq-Decides}
 use Rattle.digit_core.specs.declared.Digit.{Digit}
 use Rattle.digit_core.specs.Cell.{unflagged_digit}
 use Rattle.digit_core.specs.declared.TheConstants.{NUMERICAL_BLANK}
@@ -15,8 +14,7 @@ use Rattle.sps_ops.specs.declared.operation.Operation.{Operation}
 use Rattle.sps_ops.specs.declared.operation.Operation.TheVariants.{Instruction, Declare}
 use Rattle.sps_ops.specs.declared.operation.Declarative.{Declarative}
 use Rattle.sps_ops.specs.declared.operation.Declarative.TheVariants.{Ds, Dss, Das, Dc, Dsc, Dac, Dsa, Dsb, Dnb, Dgm, Dda, Dorg, Dend, Head}
-use Rattle.line_words.specs.Rows.{Row, value_by_name}
-use Rattle.sps_ops.specs.Operations.{operations}
+use Rattle.sps_ops.specs.Operations.{lookup_of}
 use Rattle.sps_scan.specs.declared.statement.Shape.{Shape}
 use Rattle.sps_scan.specs.declared.statement.Shape.TheVariants.{Comment, Blank, Long}
 use Rattle.line_words.specs.Blanks.{without_outer_blanks}
@@ -317,28 +315,6 @@ module _ (symbols : List SymbolEntry) (positions : ℕ) (st : State) (s : Statem
       inr (unbroken outside OutsideImage (none_second o.faults (broken_if outside OutsideImage) rest))
 
 -- a line's DAC has a text that fits
-abbrev is_dac : Operation → Bool
-is_dac (Declare Dac) = true
-is_dac op = false
-
--- no other name stands for it
-abbrev are_named : List (Row Operation) → Bool
-are_named [] = true
-are_named (r ∷ rs) = (not (is_dac r.value) || bytes_eq r.name (codes "DAC")) && are_named rs
-
-dac_name : (rows : List (Row Operation)) (name : List ℕ) → are_named rows ≡ true → value_by_name rows name ≡ Some (Declare Dac) → bytes_eq name (codes "DAC") ≡ true
-unfolding value_by_name
-dac_name [] name named h = absurd cc
-dac_name (r ∷ rs) name named h =
-    let p = and_parts (not (is_dac r.value) || bytes_eq r.name (codes "DAC")) (are_named rs) named in
-    by_bool (bytes_eq name r.name)
-    (λ t.
-    let v : Some r.value ≡ Some (Declare Dac) = rw t at h in
-    let w : r.value ≡ Declare Dac = cc in
-    let d : is_dac r.value ≡ true = ap is_dac w in
-    rw ((bytes_eq-Decides name r.name).0 t) (rw d at p.0))
-    (λ f. dac_name rs name p.1 (rw f at h))
-
 parts_are : (line first second third : List ℕ) → (part_at (with_operands line (behind_text first second third)) 0 ≡ first) × (part_at (with_operands line (behind_text first second third)) 1 ≡ second)
 parts_are line first second [] = (refl, refl)
 parts_are line first second (b ∷ bs) = by_bool (b == 44) (λ t. rw t (refl, refl)) (λ f. rw f (refl, refl))
@@ -357,11 +333,8 @@ dac_fits line text = by_bool (has_comma text)
     (λ t. rw t (number_fits line (before_comma text) (after_comma text) (short_number (before_comma text)) refl))
     (λ f. rw f (λ n h. omega arith))
 
-named_fits : (line name text : List ℕ) → bytes_eq name (codes "DAC") ≡ true → TextFits (with_operands line (operands_of name text))
-named_fits line name text t = rw t (dac_fits line text)
-
-operands_fit : (line : List ℕ) → operation_of (with_operands line (operands_of (without_outer_blanks (columns 12 15 line)) (columns 16 75 line))) ≡ Some (Declare Dac) → TextFits (with_operands line (operands_of (without_outer_blanks (columns 12 15 line)) (columns 16 75 line)))
-operands_fit line h = named_fits line (without_outer_blanks (columns 12 15 line)) (columns 16 75 line) (dac_name operations (without_outer_blanks (columns 12 15 line)) refl h)
+operands_fit : (line text : List ℕ) (operation : Option Operation) → operation ≡ Some (Declare Dac) → TextFits (with_operands line (operands_of operation text))
+operands_fit line text operation h = rw h (dac_fits line text)
 
 none_fits : (shape : Shape) → TextFits (without_parts shape)
 none_fits shape n h = omega arith
@@ -374,7 +347,7 @@ line_fits line h = by_bool (nat_lt 80 (length line))
     (λ t. rw (f, t) (none_fits Comment))
     (λ g. by_bool (is_blank (columns 6 75 line))
     (λ t. rw (f, g, t) (none_fits Blank))
-    (λ e. rw (f, g, e) (operands_fit line (rw (f, g, e) at h)))))
+    (λ e. rw (f, g, e) (operands_fit line (columns 16 75 line) (lookup_of (columns 12 15 line)) (rw (f, g, e) at h)))))
 
 -- a statement that breaks no rule has as many digits as its place says
 pub as_many : (symbols : List SymbolEntry) (positions : ℕ) (x : PassStep) → AreEarlier x.before.symbols symbols x.before.number → x.text ≡ statement_of x.line → (outcome_at symbols positions x).faults ≡ [] → length (outcome_at symbols positions x).digits ≡ (statement_place x).digits

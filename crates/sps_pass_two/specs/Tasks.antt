@@ -1,5 +1,5 @@
 -- What is made of the statement of a task.
-use Rattle.std.specs.Prelude.{◌≡◌, ℕ, Bool}
+use Rattle.std.specs.Prelude.{ℕ, Bool}
 use Rattle.sps_ops.specs.declared.operation.Declarative.{Declarative}
 use Rattle.sps_scan.specs.Statement.{StatementText, statement_text}
 use Rattle.sps_pass_one.specs.Layout.{operation_of}
@@ -12,10 +12,6 @@ use Rattle.sps_pass_two.specs.Making.{start_value}
 abbrev pub text_in : Task → StatementText
 text_in t = statement_text t.statement.now
 
--- the operation was looked up
-abbrev pub HasItsOperation : Task → Type 0
-HasItsOperation t = t.operation ≡ operation_of (text_in t)
-
 -- a declarative beside its n, k and A, n being its length
 abbrev pub own_outcome_in : Declarative → Task → ℕ → StatementOutcome
 own_outcome_in d t n = own_outcome d (anywhere t.head t.symbols.now t.place.location) (text_in t) n t.positions
@@ -26,11 +22,11 @@ declared_outcome_in d t = declared_outcome t.head t.symbols.now t.place t.number
 
 -- any operation
 abbrev pub outcome_in : Task → StatementOutcome
-outcome_in t = outcome_by_operation t.head t.symbols.now t.place t.number (text_in t) t.positions t.operation
+outcome_in t = outcome_by_operation t.head t.symbols.now t.place t.number (text_in t) t.positions (operation_of (text_in t))
 
 -- a statement that counts
 abbrev pub counting_outcome_in : Task → StatementOutcome
-counting_outcome_in t = counting_outcome t.head t.symbols.now t.place t.number (text_in t) t.positions t.operation
+counting_outcome_in t = counting_outcome t.head t.symbols.now t.place t.number (text_in t) t.positions (operation_of (text_in t))
 
 -- a statement that counts, or that does not
 abbrev pub outcome_if_in : Bool → Task → StatementOutcome

@@ -5,7 +5,7 @@ ghost use Rattle.sps_pass_one.specs.Layout.{counts_if, operation_of};
 ghost use Rattle.sps_pass_two.specs.Assembled.{is_instruction, counts_as_instruction};
 ghost use Rattle.sps_pass_two.specs.Broken.{first_address};
 ghost use Rattle.sps_pass_two.specs.Writing.{with_digits};
-ghost use Rattle.sps_pass_two.specs.Tasks.{HasItsOperation, start_value_in, text_in};
+ghost use Rattle.sps_pass_two.specs.Tasks.{start_value_in, text_in};
 ghost use Rattle.sps_pass_two.specs.Made.{Adds};
 
 use crate::assembled::Placed;
@@ -17,7 +17,7 @@ use crate::task::Task;
 use digit_core::Digit;
 use sps_expr::Scope;
 use sps_ops::Operation;
-use sps_pass_one::{answer, counts_if, ends_by};
+use sps_pass_one::{answer, counts_if, ends_if, operation_of};
 use std::alloc::{AllocError, Global};
 
 // What was made of the statements so far.
@@ -70,14 +70,14 @@ fn start_value(task: &Task<'_>) -> u32
 
 // The statement as it is placed, where a DEND may stand before it.
 fn placed_with(ended: bool, task: &Task<'_>, digits: Vec<Digit>) -> Placed
-    requires { HasItsOperation task.now }
     ensures address { result.address ≡ task.now.place.label }
     ensures instruction { result.instruction ≡ counts_as_instruction ended (text_in task.now) }
     ensures digits { result.digits ≡ digits.items }
 {
     Placed {
         address: task.place.label,
-        instruction: counts_if(ended, task.statement.shape) && is_instruction(task.operation),
+        instruction: counts_if(ended, task.statement.shape)
+            && is_instruction(operation_of(task.statement)),
         digits: Digits::from_vec(digits),
     }
 }
@@ -85,14 +85,13 @@ fn placed_with(ended: bool, task: &Task<'_>, digits: Vec<Digit>) -> Placed
 impl Made {
     // One statement more, which stands at a place and breaks no rule.
     pub(crate) fn add(&mut self, task: &Task<'_>, digits: Vec<Digit>) -> Result<(), AllocError>
-        requires { HasItsOperation task.now }
         ensures { OnOk result (Adds task.now.head task.now.symbols.now task.now.place
             (text_in task.now) digits.items self.old self.new) }
     {
-        let from = first_address(task.operation, task.place);
+        let from = first_address(operation_of(task.statement), task.place);
         write(&mut self.cells, from as usize, &digits);
         let active = counts_if(self.ended, task.statement.shape);
-        let ends = ends_by(self.ended, active, task.operation);
+        let ends = ends_if(self.ended, active, task.statement);
         if ends && !self.ended {
             self.start = start_value(task);
         }

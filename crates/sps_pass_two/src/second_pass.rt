@@ -14,7 +14,7 @@ use crate::refuse::end_faults;
 use crate::statement::statement_outcome;
 use crate::task::Task;
 use outside_io::split_line;
-use sps_pass_one::{MOST_STATEMENTS, counts_if, head_by, locate, operation_of};
+use sps_pass_one::{MOST_STATEMENTS, counts_if, head_after, locate};
 use sps_scan::scan;
 use std::alloc::{AllocError, Global};
 
@@ -61,10 +61,8 @@ pub fn assemble(alloc: Global, source: &[u8], positions: u32) -> Result<Assemble
         };
         let s = scan(line);
         let size = u64::from(positions);
-        let operation = operation_of(&s);
         let task = Task {
             statement: &s,
-            operation,
             place: *place,
             number,
             ended: made.ended,
@@ -82,7 +80,7 @@ pub fn assemble(alloc: Global, source: &[u8], positions: u32) -> Result<Assemble
         }
         let active = counts_if(made.ended, s.shape);
         made.add(&task, outcome.digits)?;
-        head = head_by(head, active, &s, operation);
+        head = head_after(head, active, &s);
         number += 1;
         rest = behind;
         places = more;

@@ -12,7 +12,7 @@ ghost use Rattle.sps_pass_two.specs.Made.{Gives};
 ghost use Rattle.sps_pass_two.specs.DigitList.{digit_list};
 ghost use Rattle.sps_pass_two.specs.Digits.{constant_of, text_digits};
 ghost use Rattle.sps_pass_two.specs.Broken.{is_card, is_bad_column, is_long, line_faults, is_earlier, label_faults, is_bad_constant, constant_faults, constant_digits, constant_outcome, digits_or_none, is_bad_start, start_faults, first_address, is_outside};
-ghost use Rattle.sps_pass_two.specs.Tasks.{HasItsOperation, own_outcome_in, declared_outcome_in, outcome_in, counting_outcome_in, outcome_if_in, statement_outcome_in};
+ghost use Rattle.sps_pass_two.specs.Tasks.{own_outcome_in, declared_outcome_in, outcome_in, counting_outcome_in, outcome_if_in, statement_outcome_in};
 ghost use Rattle.digit_core.specs.declared.TheConstants.{MOST_POSITIONS};
 
 use crate::digits::{all_text, constant_of, filled_to, flag_first, plain, repeated, text_digits};
@@ -25,7 +25,7 @@ use sps_expr::{Scope, Symbols};
 use sps_ops::{Declarative, Operation, Rule};
 use sps_pass_one::{
     Fault, MOST_STATEMENTS, Place, answer, broken_at_if, broken_if, counts_if, form_of,
-    head_faults, is_label, label_place, lacks, measure, part_at,
+    head_faults, is_label, label_place, lacks, measure, operation_of, part_at,
 };
 use sps_scan::{Shape, Statement};
 use std::alloc::{AllocError, Global};
@@ -245,7 +245,7 @@ fn outcome_of(
     requires { task.now.positions ≤ MOST_POSITIONS }
     ensures { IfOk result (Gives worst (outcome_in task.now)) }
 {
-    match task.operation {
+    match operation_of(task.statement) {
         None => Ok(faults_alone(alloc, broken_if(worst, true, Rule::UnknownOperation))),
         Some(
             Operation::Instruction {
@@ -299,13 +299,13 @@ fn counting_outcome(
     worst: Option<Fault>,
     task: &Task<'_>,
 ) -> Result<StatementOutcome, AllocError>
-    requires positions { task.now.positions ≤ MOST_POSITIONS }
+    requires { task.now.positions ≤ MOST_POSITIONS }
     ensures { IfOk result (Gives worst (counting_outcome_in task.now)) }
 {
     let name = trimmed(task.statement.label);
     let worst = label_faults(worst, task.head, task.symbols, name, task.number);
     let outcome = outcome_of(alloc, worst, task)?;
-    let from = first_address(task.operation, task.place);
+    let from = first_address(operation_of(task.statement), task.place);
     let outside = is_outside(task.positions, from, task.place.digits);
     Ok(StatementOutcome {
         worst: broken_if(outcome.worst, outside, Rule::OutsideImage),
@@ -320,8 +320,7 @@ fn outcome_if(
     task: &Task<'_>,
     active: bool,
 ) -> Result<StatementOutcome, AllocError>
-    requires operation { HasItsOperation task.now }
-    requires positions { task.now.positions ≤ MOST_POSITIONS }
+    requires { task.now.positions ≤ MOST_POSITIONS }
     ensures { IfOk result (Gives worst (outcome_if_in active task.now)) }
 {
     if active {
@@ -337,8 +336,7 @@ pub(crate) fn statement_outcome(
     alloc: Global,
     task: &Task<'_>,
 ) -> Result<StatementOutcome, AllocError>
-    requires operation { HasItsOperation task.now }
-    requires positions { task.now.positions ≤ MOST_POSITIONS }
+    requires { task.now.positions ≤ MOST_POSITIONS }
     ensures { IfOk result (Gives None (statement_outcome_in task.now)) }
 {
     let shape = task.statement.shape;

@@ -1,6 +1,5 @@
 // What is known of a statement before its rules are looked at.
 use sps_expr::Symbols;
-use sps_ops::Operation;
 use sps_pass_one::Place;
 use sps_scan::Statement;
 
@@ -11,8 +10,6 @@ use sps_scan::Statement;
 pub(crate) struct Task<'s> {
     /// The statement.
     pub statement: &'s Statement<'s>,
-    /// Its operation; `None` where there is no such operation.
-    pub operation: Option<Operation>,
     /// Where it stands.
     pub place: Place,
     /// Its number, the first being 1.

@@ -3,9 +3,11 @@ use Rattle.std.proofs.Common.{◌≡◌, ◌∙◌, ℕ, zero, suc, ◌+◌, ◌
 use Rattle.std.proofs.lemmas.List.{append-nil, take-append-drop}
 use Rattle.std.proofs.lemmas.List.Folds.{list_all-append}
 use Rattle.std.proofs.Math.Seq.{take-append_seam}
+use Rattle.sps_ops.specs.declared.operation.Operation.{Operation}
+use Rattle.sps_ops.specs.Parts.{most_parts}
 use Rattle.sps_scan.specs.Columns.{before_comma, after_comma, has_comma}
 use Rattle.sps_scan.specs.Numbers.{short_number}
-use Rattle.sps_scan.specs.Operands.{parts_of, remark_of, behind_text, behind_number, dac_operands, is_named, most_parts, operands_of}
+use Rattle.sps_scan.specs.Operands.{parts_of, remark_of, behind_text, behind_number, dac_operands, has_text, operands_of}
 use Rattle.sps_scan.specs.Statement.{all_allowed, parts_allowed, shape_of}
 use Rattle.sps_scan.specs.declared.statement.Shape.TheVariants.{BadColumn, Plain}
 use Rattle.sps_scan.proofs.Places.{by_test, is_comma, after_none}
@@ -92,11 +94,11 @@ dac_fronted text = by_test (has_comma text)
     (λ h. rw h (subst (λ t. IsFronted t (behind_number (before_comma text) (after_comma text) (short_number (before_comma text))).parts (behind_number (before_comma text) (after_comma text) (short_number (before_comma text))).remark) (comma_split text h) (number_fronted (before_comma text) (after_comma text) (short_number (before_comma text)))))
     (λ h. rw h (subst (λ p. IsFronted text (p ∷ []) []) (sym (no_comma text h)) (alone text)))
 
-fronted : (operation text : List ℕ) → IsFronted text (operands_of operation text).parts (operands_of operation text).remark
-fronted operation text = by_test (is_named operation "DAC") (λ h. rw h (dac_fronted text)) (λ h. rw h (parts_fronted (most_parts operation) text))
+fronted : (operation : Option Operation) (text : List ℕ) → IsFronted text (operands_of operation text).parts (operands_of operation text).remark
+fronted operation text = by_test (has_text operation) (λ h. rw h (dac_fronted text)) (λ h. rw h (parts_fronted (most_parts operation) text))
 
 -- the operands of an operation, by what stands in front of the remark
-module _ (operation text : List ℕ) where
+module _ (operation : Option Operation) (text : List ℕ) where
   lengths : length (fronted operation text).front + length (operands_of operation text).remark ≡ length text
   lengths = sym (length-append (fronted operation text).front (operands_of operation text).remark) ∙ ap length (fronted operation text).whole
 

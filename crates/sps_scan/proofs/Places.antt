@@ -1,12 +1,14 @@
 -- Where a statement's texts stand in its line.
-use Rattle.std.proofs.Common.{◌≡◌, ◌∙◌, ℕ, zero, suc, ◌+◌, ◌-◌, ◌<◌, ◌≤◌, inl, inr, Bool, true, false, List, [], ◌∷◌, ◌++◌, length, slice_index_or, map, take, drop, min, Option, Some, None, ◌==◌, ◌||◌, refl, sym, ap, subst, arith, bytes_eq, codes, if◌then◌else◌}
+use Rattle.std.proofs.Common.{◌≡◌, ◌∙◌, ℕ, zero, suc, ◌+◌, ◌-◌, ◌<◌, ◌≤◌, inl, inr, Bool, true, false, List, [], ◌∷◌, ◌++◌, length, slice_index_or, map, take, drop, min, Option, Some, None, ◌==◌, ◌||◌, refl, sym, ap, subst, arith, if◌then◌else◌}
 use Rattle.std.proofs.lemmas.List.{get_or-take, get_or-drop, take-take, drop-take, drop-drop, length-take, take_min}
 use Rattle.std.proofs.lemmas.Bool.Decides.{nat_tests}
 use Rattle.std.proofs.Math.Seq.{take-append_seam, drop-nil}
+use Rattle.sps_ops.specs.declared.operation.Operation.{Operation}
+use Rattle.sps_ops.specs.Parts.{most_parts}
 use Rattle.sps_scan.specs.declared.statement.Shape.{Shape}
 use Rattle.sps_scan.specs.Columns.{columns, before_comma, after_comma, has_comma}
 use Rattle.sps_scan.specs.Numbers.{short_number}
-use Rattle.sps_scan.specs.Operands.{Operands, parts_of, remark_of, parts_and_remark, behind_text, behind_number, dac_operands, most_parts, operands_of}
+use Rattle.sps_scan.specs.Operands.{Operands, parts_of, remark_of, parts_and_remark, behind_text, behind_number, dac_operands, has_text, operands_of}
 use Rattle.sps_scan.specs.Statement.{StatementText, without_parts, with_operands}
 use Rattle.sps_scan.specs.Spans.{Span, text_at, AreInOrder, Follows, FollowOn, ArePartedFrom, AreInPlace}
 
@@ -271,8 +273,8 @@ either_stands : (line : List ℕ) (at to : ℕ) (b : Bool) (x y : Operands) → 
 either_stands line at to true x y s t = s
 either_stands line at to false x y s t = t
 
-operands_stand : (line operation : List ℕ) → Stand line 15 75 (operands_of operation (columns 16 75 line)).parts (operands_of operation (columns 16 75 line)).remark
-operands_stand line operation = either_stands line 15 75 (bytes_eq operation (codes "DAC")) (dac_operands (columns 16 75 line)) (parts_and_remark (most_parts operation) (columns 16 75 line)) (dac_stands line 15 75 (omega arith)) (parts_stand (most_parts operation) line 15 75 (omega arith))
+operands_stand : (line : List ℕ) (operation : Option Operation) → Stand line 15 75 (operands_of operation (columns 16 75 line)).parts (operands_of operation (columns 16 75 line)).remark
+operands_stand line operation = either_stands line 15 75 (has_text operation) (dac_operands (columns 16 75 line)) (parts_and_remark (most_parts operation) (columns 16 75 line)) (dac_stands line 15 75 (omega arith)) (parts_stand (most_parts operation) line 15 75 (omega arith))
 
 pub placed_without : (line : List ℕ) (shape : Shape) (s : StatementText) → s ≡ without_parts shape → AreInPlace line s
 placed_without line shape s e = subst (AreInPlace line) (sym e) (
@@ -294,7 +296,7 @@ placed_without line shape s e = subst (AreInPlace line) (sym e) (
   },
 )
 
-pub placed_with : (line operation : List ℕ) (s : StatementText) → s ≡ with_operands line (operands_of operation (columns 16 75 line)) → AreInPlace line s
+pub placed_with : (line : List ℕ) (operation : Option Operation) (s : StatementText) → s ≡ with_operands line (operands_of operation (columns 16 75 line)) → AreInPlace line s
 placed_with line operation s e =
     let o = operands_of operation (columns 16 75 line) in
     let stands = operands_stand line operation in

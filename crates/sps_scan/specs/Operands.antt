@@ -1,8 +1,10 @@
 -- Operands parted by commas, and the remark behind them.
--- Source: SPS manual, coding sheet and declarative operations; the greatest number of parts, and the parting of
--- operands and remark, are this project's own.
-use Rattle.std.specs.Prelude.{ℕ, zero, suc, ◌-◌, Bool, ◌||◌, List, [], ◌∷◌, ◌++◌, length, replicate, take, drop, ◌==◌, if◌then◌else◌, Option, Some, None, bytes_eq, codes}
-use Prim.Native.String.{String}
+-- Source: SPS manual, coding sheet and declarative operations; the parting of operands and remark is this project's own.
+use Rattle.std.specs.Prelude.{ℕ, zero, suc, ◌-◌, Bool, true, false, List, [], ◌∷◌, ◌++◌, length, replicate, take, drop, ◌==◌, if◌then◌else◌, Option, Some, None}
+use Rattle.sps_ops.specs.declared.operation.Operation.{Operation}
+use Rattle.sps_ops.specs.declared.operation.Operation.TheVariants.{Declare}
+use Rattle.sps_ops.specs.declared.operation.Declarative.TheVariants.{Dac}
+use Rattle.sps_ops.specs.Parts.{most_parts}
 use Rattle.sps_scan.specs.Columns.{before_comma, after_comma, has_comma}
 use Rattle.sps_scan.specs.Numbers.{short_number}
 
@@ -43,30 +45,14 @@ dac_operands text =
     if has_comma text then behind_number (before_comma text) (after_comma text) (short_number (before_comma text))
     else record { parts = before_comma text ∷ []; remark = [] }
 
--- the operation has this name
-abbrev pub is_named : List ℕ → String → Bool
-is_named operation name = bytes_eq operation (codes name)
+-- a DAC has a text
+abbrev pub has_text : Option Operation → Bool
+has_text (Some (Declare Dac)) = true
+has_text operation = false
 
--- DS, DSS, DAS and DNB have two parts at most
-abbrev pub has_two_parts : List ℕ → Bool
-has_two_parts op = is_named op "DS" || (is_named op "DSS" || (is_named op "DAS" || is_named op "DNB"))
-
--- DGM, DORG and DEND have one
-abbrev pub has_one_part : List ℕ → Bool
-has_one_part op = is_named op "DGM" || (is_named op "DORG" || is_named op "DEND")
-
--- the greatest number of parts of an operation
-abbrev pub most_parts : List ℕ → ℕ
-most_parts operation =
-    if is_named operation "DSA" then 10
-    else if is_named operation "DDA" then 4
-    else if has_two_parts operation then 2
-    else if has_one_part operation then 1
-    else 3
-
--- the operands of an operation without blanks at its ends
-abbrev pub operands_of : List ℕ → List ℕ → Operands
-operands_of operation text = if is_named operation "DAC" then dac_operands text else parts_and_remark (most_parts operation) text
+-- the operands, by the operation
+abbrev pub operands_of : Option Operation → List ℕ → Operands
+operands_of operation text = if has_text operation then dac_operands text else parts_and_remark (most_parts operation) text
 
 -- ten texts: the parts, and empty ones behind them
 abbrev pub ten_parts : List (List ℕ) → List (List ℕ)

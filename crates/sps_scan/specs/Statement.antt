@@ -6,7 +6,7 @@ use Rattle.std.specs.Borrow.{Bor}
 use Rattle.sps_scan.specs.declared.statement.Shape.{Shape}
 use Rattle.sps_scan.specs.declared.statement.Shape.TheVariants.{Comment, Blank, Long, BadColumn, Plain}
 use Rattle.sps_scan.specs.declared.statement.Statement.{Statement}
-use Rattle.line_words.specs.Blanks.{without_outer_blanks}
+use Rattle.sps_ops.specs.Operations.{lookup_of}
 use Rattle.sps_scan.specs.Columns.{columns, is_blank}
 use Rattle.sps_scan.specs.Operands.{Operands, operands_of, ten_parts}
 
@@ -88,7 +88,7 @@ with_operands line o = record {
 
 -- a line that is neither long, nor a comment, nor blank: the operation says into how many parts the operands are parted
 abbrev pub with_operation : List ℕ → StatementText
-with_operation line = with_operands line (operands_of (without_outer_blanks (columns 12 15 line)) (columns 16 75 line))
+with_operation line = with_operands line (operands_of (lookup_of (columns 12 15 line)) (columns 16 75 line))
 
 -- the statement of a line
 unfoldable pub statement_of : List ℕ → StatementText

@@ -15,18 +15,17 @@ mod statement;
 
 use characters::is_allowed;
 use columns::{columns, is_blank};
-use line_words::trimmed;
 use operands::operands_of;
 pub use operands::short_number;
+use sps_ops::lookup;
 pub use statement::{Shape, Statement};
 
 /// The statement of a line. It never refuses: what is wrong with a line is told by its shape alone.
 ///
 /// The operands are parted by commas, into as many parts as the operation may have: 10 for DSA, 4 for DDA, 2 for DS, DSS, DAS and DNB,
-/// 1 for DGM, DORG and DEND, and 3 for any other operation, known or not. Blanks at both ends of the operation count for nothing
-/// here. The second part of a DAC is the text of as many columns as its first part says, commas and blanks included; where the first
-/// part is not one or two digits, the second is empty and the rest is the remark. Label, operation, parts and remark stand in the line in
-/// this order; between the parts there is nothing but commas.
+/// 1 for DGM, DORG and DEND, and 3 for any other operation, known or not. The second part of a DAC is the text of as many columns as its
+/// first part says, commas and blanks included; where the first part is not one or two digits, the second is empty and the rest is the
+/// remark. Label, operation, parts and remark stand in the line in this order; between the parts there is nothing but commas.
 /// Source: SPS manual, coding sheet; the parting of operands and remark is this project's own.
 #[tactic(auto, unfolding(crate::specs::Statement::statement_of))]
 pub fn scan<'a>(card: &'a [u8]) -> Statement<'a>
@@ -71,6 +70,7 @@ fn without_parts<'a>(shape: Shape, card: &'a [u8]) -> Statement<'a>
         shape,
         label: nothing,
         operation: nothing,
+        found: None,
         parts: [nothing; 10],
         count: 0,
         remark: nothing,
@@ -82,13 +82,15 @@ fn with_parts<'a>(card: &'a [u8]) -> Statement<'a>
     ensures { statement_text result ≡ with_operation card.now }
 {
     let operation = columns(12, 15, card);
+    let found = lookup(operation);
     let text = columns(16, 75, card);
-    let operands = operands_of(trimmed(operation), text);
+    let operands = operands_of(found, text);
     let front = &text[..text.len() - operands.remark.len()];
     Statement {
         shape: shape_of(columns(6, 15, card), front),
         label: columns(6, 11, card),
         operation,
+        found,
         parts: operands.parts,
         count: operands.count,
         remark: operands.remark,

@@ -1,11 +1,12 @@
 // Operands, parted by commas, and the remark behind them.
-ghost use Rattle.std.specs.Prelude.{◌≡◌, ◌≤◌, length, map, bytes_eq};
+ghost use Rattle.std.specs.Prelude.{◌≡◌, ◌≤◌, length, map};
 ghost use Rattle.sps_scan.specs.Columns.{before_comma, after_comma};
 ghost use Rattle.sps_scan.specs.Numbers.{short_number};
-ghost use Rattle.sps_scan.specs.Operands.{operands_of, most_parts, ten_parts, parts_of, remark_of, dac_operands};
+ghost use Rattle.sps_scan.specs.Operands.{operands_of, has_text, ten_parts, parts_of, remark_of, dac_operands};
 ghost use Rattle.sps_scan.specs.Statement.{now_of};
 
 use crate::columns::split_comma;
+use sps_ops::{Declarative, Operation, most_parts};
 
 // The parts of the operands, the number of parts that there are, and the remark.
 #[derive(Clone, Copy)]
@@ -15,47 +16,25 @@ pub(crate) struct Operands<'a> {
     pub(crate) remark: &'a [u8],
 }
 
-// The operands in columns 16 to 75, by the operation without the blanks at its ends.
-pub(crate) fn operands_of<'a>(operation: &[u8], text: &'a [u8]) -> Operands<'a>
-    ensures parts { map now_of result.parts ≡ ten_parts (operands_of operation.now text.now).parts }
-    ensures count { result.count ≡ length (operands_of operation.now text.now).parts }
+// The operands in columns 16 to 75, by the operation.
+pub(crate) fn operands_of<'a>(operation: Option<Operation>, text: &'a [u8]) -> Operands<'a>
+    ensures parts { map now_of result.parts ≡ ten_parts (operands_of operation text.now).parts }
+    ensures count { result.count ≡ length (operands_of operation text.now).parts }
     ensures few { result.count ≤ 10 }
-    ensures remark { result.remark.now ≡ (operands_of operation.now text.now).remark }
+    ensures remark { result.remark.now ≡ (operands_of operation text.now).remark }
 {
-    if is(operation, "DAC") {
+    if has_text(operation) {
         dac_operands(text)
     } else {
         parted(most_parts(operation), text)
     }
 }
 
-// The greatest number of parts of an operation.
-fn most_parts(operation: &[u8]) -> usize
-    ensures most { result ≡ most_parts operation.now }
-    ensures some { 1 ≤ result }
-    ensures ten { result ≤ 10 }
+// A DAC has a text.
+fn has_text(operation: Option<Operation>) -> bool
+    ensures { result ≡ has_text operation }
 {
-    if is(operation, "DSA") {
-        10
-    } else if is(operation, "DDA") {
-        4
-    } else if is(operation, "DS")
-        || is(operation, "DSS")
-        || is(operation, "DAS")
-        || is(operation, "DNB")
-    {
-        2
-    } else if is(operation, "DGM") || is(operation, "DORG") || is(operation, "DEND") {
-        1
-    } else {
-        3
-    }
-}
-
-fn is(operation: &[u8], name: &str) -> bool
-    ensures { result ≡ bytes_eq operation.now name.now }
-{
-    operation == name.as_bytes()
+    matches!(operation, Some(Operation::Declare(Declarative::Dac)))
 }
 
 // At most so many parts, each ended by a comma or by the end of the text.

@@ -47,7 +47,7 @@ loop-number-preserved c =
     let r = same_outcome _ _ _ _ _ _ _ _ _ g.follows c.in-Some.line.now c.in-Some.behind.now more _ _ places _ c.scan-s.ensures.is c.in_ok-outcome.outcome.worst w in
     let start = rw c.in_ok-located.ensures.symbols at c.in_ok-add.ensures.start in
     let on = goes_on _ _ _ _ _ _ _ _ _ _ _ _ g c.in-Some.line.now c.in-Some.behind.now more _ _ places _ c.scan-s.ensures.is c.in_ok-outcome.outcome.worst r c.in_default-worst.is _ refl c.in_ok-outcome.outcome.digits.items d _ start _ c.in_ok-add.ensures.placed _ c.in_ok-add.ensures.cells in
-    record { number = omega arith; going = rw (c.in_ok-add.ensures.ended, c.head_by-head.ensures, c.counts_if-active.ensures) on }
+    record { number = omega arith; going = rw (c.in_ok-add.ensures.ended, c.head_after-head.ensures, c.counts_if-active.ensures) on }
 
 pub returns-in-Some-end_faults-clause-is : goal.returns-in-Some-end_faults-clause-is
 returns-in-Some-end_faults-clause-is c =
