@@ -1,13 +1,12 @@
 -- A statement that breaks no rule declares as many digits as its place says, and they lie within the image.
 use Rattle.std.proofs.Common.{◌≡◌, ℕ, zero, suc, ◌+◌, ◌-◌, ◌*◌, ◌≤◌, ◌==◌, ◌&&◌, ◌||◌, ◌⊎◌, inl, inr, Bool, true, false, not, List, [], ◌∷◌, ◌++◌, length, take, drop, replicate, refl, ap, ◌∙◌, arith, Option, Some, None, is_some, Result, Ok, Err, nat_lt}
-use Rattle.std.specs.Prelude.{ℤ, pos, negsuc, int_le, nat_abs, unwrap_or, ⊤}
-use Rattle.std.specs.List.{list_all}
+use Rattle.std.specs.Prelude.{ℤ, pos, negsuc, int_le, nat_abs, option_map, unwrap_or, ⊤}
 use Rattle.std.proofs.lemmas.Bool.Decides.{nat_tests}
 use Rattle.std.proofs.lemmas.List.{length-append, length-replicate, length-take}
 use Rattle.digit_core.specs.declared.Digit.{Digit}
 use Rattle.digit_core.specs.Cell.{unflagged_digit}
 use Rattle.digit_core.specs.declared.TheConstants.{NUMERICAL_BLANK}
-use Rattle.card_code.specs.Pairs.{pair_in}
+use Rattle.card_code.specs.Pairs.{Pair, pair_in, alpha_of, digits}
 use Rattle.sps_ops.specs.declared.rule.Rule.{Rule}
 use Rattle.sps_ops.specs.declared.rule.Rule.TheVariants.{BadConstant, OutsideImage}
 use Rattle.sps_ops.specs.declared.operation.Operation.{Operation}
@@ -21,7 +20,7 @@ use Rattle.line_words.specs.Blanks.{without_outer_blanks}
 use Rattle.sps_scan.specs.Columns.{columns, is_blank, has_comma, before_comma, after_comma}
 use Rattle.sps_scan.specs.Numbers.{short_number}
 use Rattle.sps_scan.specs.Operands.{behind_text, behind_number, dac_operands, operands_of}
-use Rattle.sps_scan.specs.Statement.{StatementText, statement_of, is_comment, without_parts, with_operands}
+use Rattle.sps_scan.specs.Statement.{StatementText, statement_of, is_allowed, is_unfit, all_allowed, is_comment, without_parts, with_operands}
 use Rattle.sps_expr.specs.Grammar.{is_nothing}
 use Rattle.sps_expr.specs.Symbol.{SymbolEntry}
 use Rattle.sps_expr.specs.Earlier.{AreEarlier}
@@ -36,7 +35,7 @@ use Rattle.sps_pass_one.specs.Measure.{Answer, Measure, answer, in_bounds, read_
 use Rattle.sps_pass_one.specs.Placing.{listed_count, count_of, declared_size, field_placing, declared_placing, placing_of}
 use Rattle.sps_pass_one.specs.Layout.{State, PassStep, state_before_next, statements, counts_if, operation_of, earlier_symbols, placing, placing_if, place_by_placing, statement_place, for_layout}
 use Rattle.sps_pass_one.proofs.Alike.{measure_alike}
-use Rattle.sps_pass_two.specs.Digits.{last_digits, with_first_flag, last_flagged, address_digits, is_negative, with_flags, constant_of, with_leading_zeros, is_unfit, pair_of, is_text_character, pair_digits, character_digits, characters_digits, with_trailing_blanks, text_digits, no_flags}
+use Rattle.sps_pass_two.specs.Digits.{last_digits, with_first_flag, last_flagged, address_digits, is_negative, with_flags, constant_of, with_leading_zeros, pair_of, pair_digits, character_digits, characters_digits, with_trailing_blanks, text_digits, no_flags}
 use Rattle.sps_pass_two.specs.Operands.{operand_ask, disk_ask, addresses, address_list, value_or_0, flagged_address, instruction_digits, q_answer, flags_answer, part_digits}
 use Rattle.sps_pass_two.specs.Broken.{line_faults, label_faults, anywhere, is_bad_constant, constant_faults, digits_or_none, constant_digits, own_outcome, declared_outcome, outcome_by_operation, first_address, is_outside, outcome_if, statement_outcome, outcome_at}
 
@@ -163,25 +162,33 @@ length_pair : (o : Option (ℕ × ℕ)) → is_some o ≡ true → length (pair_
 length_pair None h = absurd cc
 length_pair (Some p) h = refl
 
-length_character : (b : ℕ) → is_text_character b ≡ true → length (character_digits b) ≡ 2
-length_character b h = by_bool (b == 64) (λ t. rw t refl) (λ f. let p = and_parts (is_some (pair_of b)) (not (is_unfit b)) h in rw f (length_pair (pair_of b) p.0))
+-- both digits of a character that has a pair
+has_digits : (o : Option Pair) → is_some o ≡ true → is_some (option_map digits o) ≡ true
+has_digits None h = absurd cc
+has_digits (Some p) h = refl
+
+length_character : (b : ℕ) → is_allowed b ≡ true → length (character_digits b) ≡ 2
+unfolding is_allowed
+length_character b h = by_bool (b == 64)
+    (λ t. rw t refl)
+    (λ f. let p = and_parts (is_some (alpha_of b)) (not (is_unfit b)) h in rw f (length_pair (pair_of b) (has_digits (alpha_of b) p.0)))
 
 length_blanks : (n : ℕ) → length (characters_digits (replicate n 32)) ≡ 2 * n
 unfolding characters_digits pair_in
 length_blanks zero = refl
 length_blanks (suc n) = let k = length_blanks n in omega arith
 
-length_characters : (text blanks : List ℕ) → list_all is_text_character text ≡ true → length (characters_digits (text ++ blanks)) ≡ 2 * length text + length (characters_digits blanks)
+length_characters : (text blanks : List ℕ) → all_allowed text ≡ true → length (characters_digits (text ++ blanks)) ≡ 2 * length text + length (characters_digits blanks)
 unfolding characters_digits
 length_characters [] blanks h = omega arith
 length_characters (b ∷ bs) blanks h =
-    let p = and_parts (is_text_character b) (list_all is_text_character bs) h in
+    let p = and_parts (is_allowed b) (all_allowed bs) h in
     let a = length-append (character_digits b) (characters_digits (bs ++ blanks)) in
     let c = length_character b p.0 in
     let k = length_characters bs blanks p.1 in
     omega arith
 
-length_text : (n : ℕ) (text : List ℕ) → list_all is_text_character text ≡ true → length text ≤ n → length (text_digits n text) ≡ 2 * n
+length_text : (n : ℕ) (text : List ℕ) → all_allowed text ≡ true → length text ≤ n → length (text_digits n text) ≡ 2 * n
 length_text n text h fits =
     let a = length_first_flag true (characters_digits (with_trailing_blanks n text)) in
     let b = length_characters text (replicate (n - length text) 32) h in
@@ -222,7 +229,7 @@ own_length Dss scope s n k positions suits h = refl
 own_length Das scope s n k positions suits h = refl
 own_length Dc scope s n k positions suits h = length_first_flag (nat_lt 1 n) (constant_digits n s) ∙ length_constant n (constant_of (part_at s 1)) suits (good_constant n s h)
 own_length Dsc scope s n k positions suits h = length_constant n (constant_of (part_at s 1)) suits (good_constant n s h)
-own_length Dac scope s n k positions suits h = length_text n (part_at s 1) (is_so _ (unbroken_at (not (list_all is_text_character (part_at s 1))) BadConstant 1 h)) suits
+own_length Dac scope s n k positions suits h = length_text n (part_at s 1) (is_so _ (unbroken_at (not (all_allowed (part_at s 1))) BadConstant 1 h)) suits
 own_length Dsa scope s n k positions suits h = length_addresses scope 0 s.parts
 own_length Dsb scope s n k positions suits h = refl
 own_length Dnb scope s n k positions suits h = length-replicate n (unflagged_digit NUMERICAL_BLANK)

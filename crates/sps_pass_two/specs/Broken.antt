@@ -1,7 +1,6 @@
 -- Which rules each statement breaks, and the refusal of a source.
 -- Source: SPS manual, declarative operations, for their digits; the rules are this project's own.
 use Rattle.std.specs.Prelude.{ℕ, ◌+◌, ◌-◌, ◌%◌, ℤ, pos, nat_abs, int_le, Bool, true, false, not, ◌&&◌, ◌||◌, ◌==◌, List, [], ◌∷◌, ◌++◌, length, map, replicate, Option, Some, None, if◌then◌else◌, nat_lt}
-use Rattle.std.specs.List.{list_all}
 use Rattle.digit_core.specs.declared.Digit.{Digit}
 use Rattle.digit_core.specs.Cell.{unflagged_digit}
 use Rattle.digit_core.specs.declared.TheConstants.{NUMERICAL_BLANK, GROUP_MARK}
@@ -13,7 +12,7 @@ use Rattle.sps_ops.specs.declared.operation.Declarative.TheVariants.{Ds, Dss, Da
 use Rattle.sps_scan.specs.declared.statement.Shape.{Shape}
 use Rattle.sps_scan.specs.declared.statement.Shape.TheVariants as shape
 use Rattle.line_words.specs.Blanks.{without_outer_blanks}
-use Rattle.sps_scan.specs.Statement.{StatementText}
+use Rattle.sps_scan.specs.Statement.{StatementText, all_allowed}
 use Rattle.sps_expr.specs.Grammar.{is_nothing}
 use Rattle.sps_expr.specs.Symbol.{SymbolEntry, find, symbol_of}
 use Rattle.sps_expr.specs.Value.{Scope, scope_of}
@@ -24,7 +23,7 @@ use Rattle.sps_pass_one.specs.Measure.{Measure, measure, form_of, answer, part_a
 use Rattle.sps_pass_one.specs.Heads.{head_faults}
 use Rattle.sps_pass_one.specs.Placing.{label_place}
 use Rattle.sps_pass_one.specs.Layout.{first, counts_if, is_label, operation_of, PassStep, statement_place, lines_of_source, statements_of, symbols_of, behind, most_statements, Refusal, first_refusal}
-use Rattle.sps_pass_two.specs.Digits.{constant_of, with_leading_zeros, with_first_flag, is_text_character, text_digits}
+use Rattle.sps_pass_two.specs.Digits.{constant_of, with_leading_zeros, with_first_flag, text_digits}
 use Rattle.sps_pass_two.specs.Operands.{operand_ask, StatementOutcome, instruction_outcome, dsa_outcome, dda_outcome}
 use Rattle.sps_pass_two.specs.Kept.{lowest_declared, lowest_start}
 
@@ -96,7 +95,7 @@ flagged_constant n s = with_first_flag (nat_lt 1 n) (constant_digits n s)
 
 -- the text of a DAC has a character that has no pair
 abbrev pub text_faults : List ℕ → List Fault
-text_faults text = broken_at_if (not (list_all is_text_character text)) BadConstant 1
+text_faults text = broken_at_if (not (all_allowed text)) BadConstant 1
 
 -- The start.
 

@@ -15,7 +15,7 @@ ghost use Rattle.sps_pass_two.specs.Broken.{is_card, is_bad_column, is_long, lin
 ghost use Rattle.sps_pass_two.specs.Tasks.{own_outcome_in, declared_outcome_in, outcome_in, counting_outcome_in, outcome_if_in, statement_outcome_in};
 ghost use Rattle.digit_core.specs.declared.TheConstants.{MOST_POSITIONS};
 
-use crate::digits::{all_text, constant_of, filled_to, flag_first, plain, repeated, text_digits};
+use crate::digits::{constant_of, filled_to, flag_first, plain, repeated, text_digits};
 use crate::operands::{Coded, dda_outcome, dsa_outcome, instruction_outcome, operand_ask};
 use crate::outcome::StatementOutcome;
 use crate::task::Task;
@@ -27,7 +27,7 @@ use sps_pass_one::{
     Fault, MOST_STATEMENTS, Place, answer, broken_at_if, broken_if, counts_if, form_of,
     head_faults, is_label, label_place, lacks, measure, operation_of, part_at,
 };
-use sps_scan::{Shape, Statement};
+use sps_scan::{Shape, Statement, all_allowed};
 use std::alloc::{AllocError, Global};
 
 // The least address that a statement may declare: below it are the card's columns and room that programs leave alone.
@@ -193,7 +193,7 @@ fn own_outcome(
         Declarative::Dsc => constant_outcome(alloc, worst, n, s),
         Declarative::Dac => {
             let text = part_at(s, 1);
-            let worst = broken_at_if(worst, !all_text(text), Rule::BadConstant, 1);
+            let worst = broken_at_if(worst, !all_allowed(text), Rule::BadConstant, 1);
             let digits = text_digits(alloc, n, text)?;
             Ok(StatementOutcome { worst, digits })
         }

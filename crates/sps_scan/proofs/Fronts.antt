@@ -3,12 +3,13 @@ use Rattle.std.proofs.Common.{◌≡◌, ◌∙◌, ℕ, zero, suc, ◌+◌, ◌
 use Rattle.std.proofs.lemmas.List.{append-nil, take-append-drop}
 use Rattle.std.proofs.lemmas.List.Folds.{list_all-append}
 use Rattle.std.proofs.Math.Seq.{take-append_seam}
+use Rattle.card_code.specs.Pairs.{pair_in}
 use Rattle.sps_ops.specs.declared.operation.Operation.{Operation}
 use Rattle.sps_ops.specs.Parts.{most_parts}
 use Rattle.sps_scan.specs.Columns.{before_comma, after_comma, has_comma}
 use Rattle.sps_scan.specs.Numbers.{short_number}
 use Rattle.sps_scan.specs.Operands.{parts_of, remark_of, behind_text, behind_number, dac_operands, has_text, operands_of}
-use Rattle.sps_scan.specs.Statement.{all_allowed, parts_allowed, shape_of}
+use Rattle.sps_scan.specs.Statement.{is_allowed, all_allowed, parts_allowed, shape_of}
 use Rattle.sps_scan.specs.declared.statement.Shape.TheVariants.{BadColumn, Plain}
 use Rattle.sps_scan.proofs.Places.{by_test, is_comma, after_none}
 
@@ -43,6 +44,7 @@ no_comma (b ∷ bs) h =
 
 -- two texts with a comma between them
 both_allowed : (first second : List ℕ) → all_allowed (first ++ 44 ∷ second) ≡ (all_allowed first && all_allowed second)
+unfolding is_allowed pair_in
 both_allowed first second = list_all-append _ first (44 ∷ second)
 
 -- a part that a comma ends, before others

@@ -1,11 +1,12 @@
 -- A line as a statement.
 -- Source: SPS manual, coding sheet; that a line has at most 80 bytes, and what it is first, are this project's own.
-use Rattle.std.specs.Prelude.{ℕ, Bool, true, false, ◌&&◌, ◌||◌, List, [], length, replicate, map, nat_le, nat_lt, ◌==◌, if◌then◌else◌, codes, slice_index_or}
-use Rattle.std.specs.List.{list_all, list_any}
+use Rattle.std.specs.Prelude.{ℕ, Bool, true, false, not, ◌&&◌, ◌||◌, List, [], length, replicate, map, nat_lt, ◌==◌, if◌then◌else◌, is_some, slice_index_or}
+use Rattle.std.specs.List.{list_all}
 use Rattle.std.specs.Borrow.{Bor}
 use Rattle.sps_scan.specs.declared.statement.Shape.{Shape}
 use Rattle.sps_scan.specs.declared.statement.Shape.TheVariants.{Comment, Blank, Long, BadColumn, Plain}
 use Rattle.sps_scan.specs.declared.statement.Statement.{Statement}
+use Rattle.card_code.specs.Pairs.{alpha_of}
 use Rattle.sps_ops.specs.Operations.{lookup_of}
 use Rattle.sps_scan.specs.Columns.{columns, is_blank}
 use Rattle.sps_scan.specs.Operands.{Operands, operands_of, ten_parts}
@@ -34,13 +35,13 @@ statement_text s = record {
   remark = s.remark.now;
 }
 
--- a special character of the assembler
-abbrev pub is_special : ℕ → Bool
-is_special b = list_any (λ c. b == c) (codes ".)+$*-/,(=@")
+-- a character of cards that the assembler does not take: `]`, `}` and `|`
+abbrev pub is_unfit : ℕ → Bool
+is_unfit b = (b == 93) || ((b == 125) || (b == 124))
 
--- a character of the assembler
-abbrev pub is_allowed : ℕ → Bool
-is_allowed b = (b == 32) || ((nat_le 65 b && nat_le b 90) || ((nat_le 48 b && nat_le b 57) || is_special b))
+-- a character of the assembler: one that has a pair of digits, but for those
+unfoldable pub is_allowed : ℕ → Bool
+is_allowed b = is_some (alpha_of b) && not (is_unfit b)
 
 -- each character is one of the assembler
 abbrev pub all_allowed : List ℕ → Bool

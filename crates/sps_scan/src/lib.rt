@@ -108,7 +108,10 @@ fn shape_of(columns: &[u8], operands: &[u8]) -> Shape
     }
 }
 
-fn all_allowed(text: &[u8]) -> bool
+/// Whether each byte of a text is a character of the assembler: one that has a pair of digits on cards, but for `]`, `}` and `|`.
+///
+/// Source: SPS manual, character set; that `]`, `}` and `|` are left out is this project's own.
+pub fn all_allowed(text: &[u8]) -> bool
     ensures { result ≡ all_allowed text.now }
 {
     text.iter().all(|b| is_allowed(*b))
