@@ -3,4 +3,6 @@ pub mod Reading
 pub mod Words
 pub mod Numbers
 pub mod Given
+pub mod Sets
+pub mod Known
 pub mod Matched

@@ -6,7 +6,8 @@
 //! is used.
 //!
 //! Words are tried first, and refused here where they are not plain. Plain words are then read with `clap`, which is told of their command
-//! alone, with its options, and the map that is read is made from its matches.
+//! alone, with its options, and the map that is read is made from its matches. The words with what they say are a `Read`: they are read once, for
+//! the job and for all that is said of it.
 #![tactic(auto)]
 
 mod given;
@@ -15,10 +16,12 @@ mod matched;
 mod names;
 mod options;
 mod reading;
+mod said;
 mod values;
 mod words;
 
 pub use given::Plain;
 pub use names::Names;
 pub use reading::Settings;
-pub use words::{Command, CoreSize, STANDARD_LIMIT, named_file, plain_words};
+pub use said::Read;
+pub use words::{COMMANDS, Command, CoreSize, STANDARD_LIMIT, command_of, plain_words};

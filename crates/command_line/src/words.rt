@@ -1,7 +1,7 @@
 // The words of the command line.
-ghost use Rattle.std.specs.Prelude.{◌≡◌, true, map, string_bytes, option_copied, is_some, IfOk, IfErr};
+ghost use Rattle.std.specs.Prelude.{◌≡◌, true, map, string_bytes, is_some, IfOk, IfErr};
 ghost use Rattle.line_words.specs.Rows.{row_from_table, value_by_name};
-ghost use Rattle.command_line.specs.Words.{commands, meaning_of_words, names_of};
+ghost use Rattle.command_line.specs.Words.{commands, meaning_of_words};
 ghost use Rattle.command_line.specs.Given.{MeansJust};
 
 use crate::given::Plain;
@@ -9,7 +9,6 @@ use crate::grammar::values_of;
 use crate::matched::matched;
 use crate::reading::read;
 use line_words::find;
-use outside_io::Unit;
 use std::alloc::{AllocError, Global};
 
 /// What the program does.
@@ -46,8 +45,10 @@ pub enum CoreSize {
     ThreeModules,
 }
 
-// The commands.
-const COMMANDS: [(&str, Command); 7] = [
+/// The commands, by their words.
+///
+/// Source: this project's own.
+pub const COMMANDS: [(&str, Command); 7] = [
     ("assemble", Command::Assemble),
     ("load", Command::Load),
     ("run", Command::Run),
@@ -62,8 +63,10 @@ const COMMANDS: [(&str, Command); 7] = [
 /// Source: this project's own.
 pub const STANDARD_LIMIT: u64 = 1_000_000;
 
-// The command of a word.
-pub(crate) fn command_of(word: &str) -> Option<Command>
+/// The command of a word.
+///
+/// Source: this project's own.
+pub fn command_of(word: &str) -> Option<Command>
     ensures { result ≡ value_by_name commands word.now }
 {
     find(&COMMANDS, word.as_bytes())
@@ -103,22 +106,4 @@ pub fn plain_words<'a>(alloc: Global, words: &'a [String]) -> Result<Option<Plai
         return Ok(None);
     }
     matched(alloc, words)
-}
-
-/// The name of the file that the words name for a unit; none where they name none, or are not plain.
-///
-/// The error says that memory was lacking; it comes for plain words alone.
-/// Source: this project's own.
-pub fn named_file<'a>(
-    alloc: Global,
-    words: &'a [String],
-    unit: Unit,
-) -> Result<Option<&'a str>, AllocError>
-    ensures is { IfOk result (λ name. option_copied name ≡ names_of (meaning_of_words words.now) unit) }
-    ensures memory { IfErr result (λ e. is_some (meaning_of_words words.now) ≡ true) }
-{
-    match plain_words(alloc, words)? {
-        None => Ok(None),
-        Some(plain) => Ok(plain.names.get(unit)),
-    }
 }

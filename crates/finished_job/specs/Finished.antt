@@ -9,10 +9,8 @@ use Rattle.outside_io.specs.declared.whole.Sent.TheVariants.{Done, Failed}
 use Rattle.ibm1620_cli.specs.declared.status.Status.{Status}
 use Rattle.ibm1620_cli.specs.declared.status.Status.TheVariants.{HostFault, OutOfMemory, Usage}
 use Rattle.ibm1620_cli.specs.declared.answer.Answer.{Answer}
-use Rattle.ibm1620_cli.specs.Job.{word_bytes, Tells, BindsSaid, KeepsUnread}
-use Rattle.ibm1620_cli.specs.Headline.{Headline}
-use Rattle.ibm1620_cli.specs.Endings.{TrialEnds, SessionEnds}
-use Rattle.ibm1620_cli.specs.RoundTrip.{DiskRoundTrip, RoundTrip}
+use Rattle.ibm1620_cli.specs.Job.{word_bytes}
+use Rattle.ibm1620_cli.specs.Answers.{AnswersJob}
 use Rattle.ibm1620_cli.specs.Report.{code_of}
 use Rattle.job_messages.specs.declared.messages.Ending.{Ending}
 use Rattle.job_messages.specs.declared.messages.Message.{Message}
@@ -20,17 +18,6 @@ use Rattle.job_messages.specs.Messages.{IsMessageOf, is_empty, message_text}
 use Rattle.finished_job.specs.declared.job.TheConstants.{MESSAGE_ROOM}
 use Rattle.finished_job.specs.Pieces.{Says}
 use Rattle.finished_job.specs.Lost.{LosesCards}
-
--- the job of the words is done, and this is answered: all that is said of `ibm1620_answer`
-pub record AnswersJob (words : List (List ℕ)) (old new : Seen) (answer : Answer) : Type 0 where
-  pub told : Tells words old new answer
-  pub bound : BindsSaid words old new answer.status
-  pub unread : KeepsUnread words old new
-  pub headline : Headline words old new answer
-  pub trial : TrialEnds words old new answer.status
-  pub session : SessionEnds words old new answer.status
-  pub trip : RoundTrip words old new answer
-  pub disk_trip : DiskRoundTrip words old new answer
 
 -- nothing is finished, and the status stays
 pub record EndsAsItIs (status : Status) (old new : Seen) (ended : Status) : Type 0 where

@@ -7,7 +7,8 @@ ghost use Rattle.finished_job.specs.Finished.{leaves_files, EndsJob, FinishesJob
 use crate::counting::Counting;
 use crate::finishing::Finishes;
 use crate::sink::Sink;
-use ibm1620_cli::{Status, ibm1620_answer};
+use command_line::Read;
+use ibm1620_cli::{Status, ibm1620_read};
 use job_messages::{Ending, Message};
 use outside_io::Sent;
 use std::alloc::Global;
@@ -38,7 +39,25 @@ pub fn do_job<H: Finishes, S: Sink>(
     requires { IsFresh (H.seen host.old.host).world }
     ensures { FinishesJob words.now asks_console (H.seen host.old.host) (H.seen host.new.host) (S.said errors.old) (S.said errors.new) result }
 {
-    let answer = ibm1620_answer(alloc, words, host);
+    do_read_job(alloc, &Read::of(alloc, words), asks_console, host, errors)
+}
+
+/// Does what the words say that were read, with all that lies around that: as [`do_job`] of these words, which are not read again, for the job
+/// or for what is said of it.
+///
+/// No unit of the host is in use, and no output has been given a byte.
+/// Source: this project's own.
+pub fn do_read_job<H: Finishes, S: Sink>(
+    alloc: Global,
+    read: &Read<'_>,
+    asks_console: bool,
+    host: &mut Counting<H>,
+    errors: &mut S,
+) -> u8
+    requires { IsFresh (H.seen host.old.host).world }
+    ensures { FinishesJob read.now.words.now asks_console (H.seen host.old.host) (H.seen host.new.host) (S.said errors.old) (S.said errors.new) result }
+{
+    let answer = ibm1620_read(alloc, read, host);
     let status = finished(host, answer.status);
     let lost_cards = host.cards();
     let trouble = host.trouble();
@@ -49,7 +68,7 @@ pub fn do_job<H: Finishes, S: Sink>(
         asks_console,
         lost_cards,
     };
-    say_ending(alloc, words, ending, errors);
+    say_ending(alloc, read, ending, errors);
     status.code()
 }
 
@@ -79,10 +98,10 @@ fn leaves_files(status: Status) -> bool
 // Says what there is to say of a job that ended so.
 #[cold]
 #[inline(never)]
-fn say_ending<S: Sink>(alloc: Global, words: &[String], ending: Ending<'_>, errors: &mut S)
-    ensures { SaysEnding ending.entry words.now (S.said errors.old) (S.said errors.new) }
+fn say_ending<S: Sink>(alloc: Global, read: &Read<'_>, ending: Ending<'_>, errors: &mut S)
+    ensures { SaysEnding ending.entry read.now.words.now (S.said errors.old) (S.said errors.new) }
 {
-    let message = Message::of(ending, words, alloc);
+    let message = Message::of(ending, read);
     if !message.is_empty() {
         say(alloc, &message, errors);
     }

@@ -12,5 +12,5 @@ mod sink;
 
 pub use counting::Counting;
 pub use finishing::Finishes;
-pub use job::do_job;
+pub use job::{do_job, do_read_job};
 pub use sink::{OnErrors, Said, Sink};

@@ -1,39 +1,30 @@
 // The texts of a source that a job without success leaves empty, where no such file was there before.
-use command_line::named_file;
+use command_line::Read;
 use outside_io::Unit;
 use std::fs;
 use std::io::ErrorKind;
 
-// The units that a source's texts go to.
-const MADE: [Unit; 3] = [Unit::Object, Unit::Image, Unit::Listing];
-
-// Which of these units the words name a file for that is not there.
+// The names of the files that a source's texts go to and that are not there. A job that makes no texts of a source has none.
 #[derive(Clone, Copy)]
-pub(crate) struct Fresh {
-    is_fresh: [bool; 3],
+pub(crate) struct Fresh<'a> {
+    names: [Option<&'a str>; 3],
 }
 
-impl Fresh {
-    // Looks before the job begins. A load makes no texts, so no file is looked for.
-    pub(crate) fn before(rt: &HostRuntime, words: &[String]) -> Fresh {
-        let mut is_fresh = [false; 3];
-        if makes_texts(words) {
-            for (fresh, unit) in is_fresh.iter_mut().zip(MADE) {
-                *fresh = named_file(rt.alloc(), words, unit)
-                    .unwrap_or(None)
-                    .is_some_and(|name| is_absent(rt, name));
-            }
-        }
-        Fresh { is_fresh }
+impl<'a> Fresh<'a> {
+    // Looks before the job begins.
+    pub(crate) fn before(rt: &HostRuntime, read: &Read<'a>) -> Fresh<'a> {
+        let names = [
+            absent_file(rt, read, Unit::Object),
+            absent_file(rt, read, Unit::Image),
+            absent_file(rt, read, Unit::Listing),
+        ];
+        Fresh { names }
     }
 
     // Removes those that are there now and have no byte. One that can't be removed stays.
-    pub(crate) fn remove_empty(&self, rt: &HostRuntime, words: &[String]) {
-        for (fresh, unit) in self.is_fresh.iter().zip(MADE) {
-            if !*fresh {
-                continue;
-            }
-            let Some(name) = named_file(rt.alloc(), words, unit).unwrap_or(None) else {
+    pub(crate) fn remove_empty(&self, rt: &HostRuntime) {
+        for name in self.names {
+            let Some(name) = name else {
                 continue;
             };
             if is_empty(rt, name) {
@@ -43,11 +34,13 @@ impl Fresh {
     }
 }
 
-// Whether the words begin with a command that makes texts of a source.
-fn makes_texts(words: &[String]) -> bool {
-    match words.first() {
-        Some(word) => !matches!(word.as_str(), "load" | "generate" | "trial"),
-        None => false,
+// The name of the unit's file, where the words name one and it is not there.
+fn absent_file<'a>(rt: &HostRuntime, read: &Read<'a>, unit: Unit) -> Option<&'a str> {
+    let name = read.file(unit)?;
+    if is_absent(rt, name) {
+        Some(name)
+    } else {
+        None
     }
 }
 

@@ -1,5 +1,6 @@
 // What the program needs before its job begins.
-use outside_io::PackRoom;
+use command_line::{Command, Read};
+use outside_io::{PackRoom, Unit};
 use std::fmt;
 use std::io::{self, ErrorKind};
 
@@ -65,8 +66,8 @@ fn no_words(error: io::Error) -> NoStart {
 }
 
 // The room for the blank pack of the job that the words say, where it has one: so that its machine takes no memory once it is powered on.
-pub(crate) fn room_for(rt: &HostRuntime, words: &[String]) -> Result<Option<PackRoom>, NoStart> {
-    if !has_blank_pack(words) {
+pub(crate) fn room_for(rt: &HostRuntime, read: &Read<'_>) -> Result<Option<PackRoom>, NoStart> {
+    if !has_blank_pack(read) {
         return Ok(None);
     }
     match PackRoom::reserve(rt.alloc()) {
@@ -75,14 +76,15 @@ pub(crate) fn room_for(rt: &HostRuntime, words: &[String]) -> Result<Option<Pack
     }
 }
 
-// Whether the job that the words say has a machine, and no file for its pack. No value of an option begins with a hyphen, so `--pack` is
-// never one.
-fn has_blank_pack(words: &[String]) -> bool {
-    match words.first() {
-        Some(command) => {
-            matches!(command.as_str(), "load" | "run" | "debug" | "trial")
-                && !words.iter().any(|word| word.as_str() == "--pack")
+// Whether the job that the words say has a machine, and no file for its pack.
+fn has_blank_pack(read: &Read<'_>) -> bool {
+    match &read.said {
+        Ok(Some(plain)) => {
+            matches!(
+                plain.command,
+                Command::Load | Command::Run | Command::Debug | Command::Trial
+            ) && plain.names.get(Unit::Pack).is_none()
         }
-        None => false,
+        _ => false,
     }
 }

@@ -2,6 +2,7 @@
 use crate::standard::hold_standard;
 use crate::start::{NoStart, words_of};
 use addr_indirect::Stop;
+use command_line::Read;
 use ibm1620_cli::{Answer, Status};
 use job_messages::{Ending, Message};
 use outside_io::{Cause, Doing, Trouble, Unit};
@@ -39,7 +40,20 @@ fn said(
         asks_console: false,
         lost_cards: 0,
     };
-    let message = Message::of(ending, &words, alloc);
+    said_of_words(alloc, ending, &words)
+}
+
+// What it says of such an ending, its words being read.
+fn said_of_words(
+    alloc: Global,
+    ending: Ending<'_>,
+    words: &[String],
+) -> Result<String, AllocError> {
+    said_as_read(alloc, ending, &Read::of(alloc, words))
+}
+
+fn said_as_read(alloc: Global, ending: Ending<'_>, read: &Read<'_>) -> Result<String, AllocError> {
+    let message = Message::of(ending, read);
     format!(in alloc; "{message}")
 }
 

@@ -30,3 +30,4 @@ mod Headlines
 mod CardLines
 mod Tripped
 mod Prompted
+mod Answered

@@ -21,4 +21,5 @@ pub mod Parts
 pub mod Headline
 pub mod Endings
 pub mod RoundTrip
+pub mod Answers
 pub mod Prompts

@@ -9,6 +9,7 @@ ghost use Rattle.ibm1620_cli.specs.Job.{word_bytes, reads, Tells, BindsSaid, Kee
 ghost use Rattle.ibm1620_cli.specs.Headline.{Headline};
 ghost use Rattle.ibm1620_cli.specs.RoundTrip.{DiskRoundTrip, RoundTrip};
 ghost use Rattle.ibm1620_cli.specs.Endings.{TrialEnds, SessionEnds};
+ghost use Rattle.ibm1620_cli.specs.Answers.{AnswersJob};
 
 use crate::answer::Answer;
 use crate::assembly::assemble_source;
@@ -21,7 +22,7 @@ use crate::report::report;
 use crate::run::run_source;
 use crate::status::Status;
 use crate::trial::try_source;
-use command_line::{Command, CoreSize, Plain, plain_words};
+use command_line::{Command, CoreSize, Plain, Read};
 use outside_io::{Bound, Host};
 use std::alloc::{AllocError, Global};
 
@@ -131,7 +132,17 @@ pub fn ibm1620_answer<H: Host>(alloc: Global, words: &[String], host: &mut H) ->
     ensures trip { RoundTrip (word_bytes words.now) (H.seen host.old) (H.seen host.new) result }
     ensures disk_trip { DiskRoundTrip (word_bytes words.now) (H.seen host.old) (H.seen host.new) result }
 {
-    match plain_words(alloc, words) {
+    ibm1620_read(alloc, &Read::of(alloc, words), host)
+}
+
+/// Does what the words say that were read, over any host: all that [`ibm1620_answer`] says of the words holds of those.
+///
+/// No unit of the host is in use, and no output has been given a byte.
+pub fn ibm1620_read<H: Host>(alloc: Global, read: &Read<'_>, host: &mut H) -> Answer
+    requires { IsFresh (H.seen host.old).world }
+    ensures { AnswersJob (word_bytes read.now.words.now) (H.seen host.old) (H.seen host.new) result }
+{
+    match read.said {
         Ok(None) => Answer::of(report(host, Status::Usage)),
         Ok(Some(plain)) => bind_and_do(alloc, host, plain),
         Err(AllocError) => Answer::of(Status::OutOfMemory),

@@ -1,11 +1,13 @@
 -- What a job says of its end.
-use Rattle.std.specs.Prelude.{ℕ, ◌≡◌, Bool, true, false, ◌&&◌, ◌||◌, ◌==◌, List, [], ◌++◌, Option, None, Some, IfSome, option_copied, option_map, option_and_then, is_none, if◌then◌else◌}
+use Rattle.std.specs.Prelude.{ℕ, ◌≡◌, Bool, true, false, ◌&&◌, ◌||◌, ◌==◌, List, [], ◌++◌, Option, None, Some, IfOk, option_copied, option_map, option_and_then, is_none, if◌then◌else◌}
 use Rattle.std.specs.Fmt.{option_append}
 use Rattle.outside_io.specs.declared.trouble.Trouble.{Trouble}
 use Rattle.read_checks.specs.declared.Tally.{Tally}
 use Rattle.read_checks.specs.declared.BadCharacter.{BadCharacter}
 use Rattle.command_line.specs.Words.{plain}
 use Rattle.command_line.specs.Given.{MeansJust}
+use Rattle.command_line.specs.Known.{file_of}
+use Rattle.command_line.specs.declared.said.Read.{Read}
 use Rattle.cpu_step.specs.declared.console.Console.{Console}
 use Rattle.cpu_step.specs.declared.checks.CheckPart.{CheckPart}
 use Rattle.sps_listing.specs.declared.refused_statement.RefusedLine.{RefusedLine}
@@ -17,13 +19,11 @@ use Rattle.message_hints.specs.declared.refused.Refused as shown
 use Rattle.job_messages.specs.declared.messages.Ending.{Ending}
 use Rattle.job_messages.specs.declared.messages.Message.{Message}
 use Rattle.job_messages.specs.declared.told.BadCharacters.{BadCharacters}
-use Rattle.job_messages.specs.declared.words.Read.{Read}
 use Rattle.message_hints.specs.Mistakes.{confusion_text}
 use Rattle.message_hints.specs.Refusals.{PicturesLine}
 use Rattle.job_messages.specs.Console.{console_line}
 use Rattle.job_messages.specs.Statuses.{happened_text}
 use Rattle.job_messages.specs.Told.{bad_text, lost_text, standing_text}
-use Rattle.job_messages.specs.Words.{file_of}
 
 -- a job that ends so has nothing to say of that
 abbrev pub says_nothing : Status → Bool
@@ -89,10 +89,10 @@ pub record IsMessageOf (ending : Ending) (words : List (List ℕ)) (m : Message)
   pub trouble-is : option_copied m.happened.trouble ≡ option_copied ending.trouble
   pub part-is : m.happened.part ≡ part_shown ending.answer.now.console
   pub refused-is : PicturesRefusal ending.answer.now.refusal m.happened.refused
-  -- what the words say, unless memory was lacking, or no file is named
-  pub words-are : IfSome m.happened.read.plain (MeansJust (plain words))
-  pub cards-are : TellsIn m.happened.read ending.answer.now.console (λ c. c.bad_cards) m.bad_cards
-  pub keys-are : TellsIn m.happened.read ending.answer.now.console (λ c. c.bad_keys) m.bad_keys
+  -- what the words say, unless memory was lacking
+  pub words-are : IfOk m.happened.read.now.said (MeansJust (plain words))
+  pub cards-are : TellsIn m.happened.read.now ending.answer.now.console (λ c. c.bad_cards) m.bad_cards
+  pub keys-are : TellsIn m.happened.read.now ending.answer.now.console (λ c. c.bad_keys) m.bad_keys
   pub console-is : option_copied m.console ≡ console_shown ending.status ending.asks_console ending.answer.now.console
   pub statement-is : option_copied m.statement ≡ statement_shown (option_copied m.console) ending.answer.now.statement
   pub lost-are : m.lost_cards ≡ ending.lost_cards

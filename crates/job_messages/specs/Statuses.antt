@@ -19,7 +19,8 @@ use Rattle.message_hints.specs.declared.refused.Refused as shown
 use Rattle.message_hints.specs.Escapes.{escaped_text}
 use Rattle.report_lines.specs.Numbers.{digits_to_width}
 use Rattle.job_messages.specs.declared.statuses.Happened.{Happened}
-use Rattle.job_messages.specs.declared.words.Read.{Read}
+use Rattle.command_line.specs.declared.said.Read.{Read}
+use Rattle.command_line.specs.Known.{core_of, file_of}
 use Rattle.message_hints.specs.Breaches.{breach_text}
 use Rattle.message_hints.specs.Problems.{misuse_text}
 use Rattle.message_hints.specs.Refusals.{refused_text}
@@ -27,7 +28,7 @@ use Rattle.job_messages.specs.Checks.{advice, meaning}
 use Rattle.job_messages.specs.Faults.{fault_words}
 use Rattle.job_messages.specs.Names.{file_text}
 use Rattle.job_messages.specs.Parts.{address_text, part_line}
-use Rattle.job_messages.specs.Words.{core_of, fault_file, file_of}
+use Rattle.job_messages.specs.Words.{fault_file}
 
 -- a refused statement, where it is shown
 abbrev pub shown_text : Option shown.Refused → List ℕ
@@ -133,24 +134,24 @@ text_by (Generated statements) h = Some []
 text_by (Placed sectors cards) h = Some []
 text_by SessionEnded h = Some []
 text_by (Refused statement rule) h =
-    Some (refusal_text (file_text Source (file_of h.read Source)) (file_of h.read Source) statement rule (core_of h.read) h.refused)
+    Some (refusal_text (file_text Source (file_of h.read.now Source)) (file_of h.read.now Source) statement rule (core_of h.read.now) h.refused)
 text_by Usage h = Some (misuse_text h.misuse)
-text_by (CheckStop kind at steps) h = Some (check_text kind at h.part (core_of h.read))
-text_by (Limit steps) h = Some (limit_text steps (file_of h.read Deck) (file_of h.read Source))
+text_by (CheckStop kind at steps) h = Some (check_text kind at h.part (core_of h.read.now))
+text_by (Limit steps) h = Some (limit_text steps (file_of h.read.now Deck) (file_of h.read.now Source))
 text_by (NeedCards at steps) h =
-    Some (need_cards_text at (file_of h.read Deck) (file_text Data (file_of h.read Data)))
-text_by (NeedKeys at steps) h = Some (need_keys_text at (file_text Keys (file_of h.read Keys)))
-text_by HostFault h = host_fault_text (option_copied h.trouble) h.read
+    Some (need_cards_text at (file_of h.read.now Deck) (file_text Data (file_of h.read.now Data)))
+text_by (NeedKeys at steps) h = Some (need_keys_text at (file_text Keys (file_of h.read.now Keys)))
+text_by HostFault h = host_fault_text (option_copied h.trouble) h.read.now
 text_by OutOfMemory h = Some (codes "ibm1620: there was not enough memory: free some and try again\n")
-text_by (Jam u line) h = Some (jam_text (file_text u (file_of h.read u)) line)
+text_by (Jam u line) h = Some (jam_text (file_text u (file_of h.read.now u)) line)
 text_by (BadScript line) h =
-    Some (codes "ibm1620: " ++ file_text Script (file_of h.read Script) ++ codes ": line " ++ decimal line
+    Some (codes "ibm1620: " ++ file_text Script (file_of h.read.now Script) ++ codes ": line " ++ decimal line
     ++ codes " is no line of a script\nibm1620: write it like AT 0 SWITCH 1 ON or HALT START; see docs/formats.md\n")
 text_by (TooLong u) h =
-    Some (codes "ibm1620: " ++ file_text u (file_of h.read u)
+    Some (codes "ibm1620: " ++ file_text u (file_of h.read.now u)
     ++ codes ": has too many bytes\nibm1620: shorten it: it may have " ++ longest u ++ codes " bytes\n")
 text_by (BadCommand line) h =
-    Some (codes "ibm1620: " ++ file_text Commands (file_of h.read Commands) ++ codes ": line " ++ decimal line
+    Some (codes "ibm1620: " ++ file_text Commands (file_of h.read.now Commands) ++ codes ": line " ++ decimal line
     ++ codes " is no command of the debugger\nibm1620: write it like BREAK 7, GO or SHOW 402 12; see docs/debugger.md\n")
 
 abbrev pub happened_text : Happened → Option (List ℕ)

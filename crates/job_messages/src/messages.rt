@@ -3,15 +3,16 @@ ghost use Rattle.std.specs.Prelude.{◌≡◌, Some, option_copied};
 ghost use Rattle.job_messages.specs.Messages.{TellsBad, bad_or_none, confused_text, console_shown, says_nothing, shown_text, stands_still};
 
 use crate::console::ConsoleLine;
+use crate::names::SOME_FILE;
 use crate::statuses::Happened;
 use crate::told::{BadCharacters, LostCards, Standing};
-use crate::words::Read;
+use crate::words::named;
+use command_line::Read;
 use cpu_step::Console;
 use ibm1620_cli::{Answer, StandingLine, Status};
 use message_hints::{Confusion, Misuse, Refused, Stopped};
-use outside_io::Trouble;
+use outside_io::{Trouble, Unit};
 use read_checks::Tally;
-use std::alloc::Global;
 use std::fmt;
 
 /// How a job ended, and what is told of it.
@@ -54,18 +55,13 @@ impl<'a> Message<'a> {
     ghost use Rattle.job_messages.specs.Messages.{IsMessageOf, is_empty};
     ghost use Rattle.ibm1620_cli.specs.Job.{word_bytes};
 
-    /// What is said of a job with these words that ended so.
+    /// What is said of a job that ended so, by its words as they were read.
     ///
     /// Source: this project's own.
-    pub fn of(ending: Ending<'a>, words: &'a [String], alloc: Global) -> Message<'a>
-        ensures { IsMessageOf ending.entry (word_bytes words.now) result }
+    pub fn of(ending: Ending<'a>, read: &'a Read<'a>) -> Message<'a>
+        ensures { IsMessageOf ending.entry (word_bytes read.now.words.now) result }
     {
         let answer = ending.answer;
-        let read = if needs_words(&ending) {
-            Read::of(alloc, words)
-        } else {
-            Read { plain: None }
-        };
         let console = shown_console(ending.status, ending.asks_console, &answer.console);
         Message {
             happened: Happened {
@@ -79,16 +75,16 @@ impl<'a> Message<'a> {
                     Some(line) => Refused::of(line),
                     None => None,
                 },
-                misuse: misuse_of(ending.status, words),
+                misuse: misuse_of(ending.status, read.words),
                 read,
             },
-            confusion: confusion_of(ending.status, answer, words, alloc),
+            confusion: confusion_of(ending.status, answer, read),
             bad_cards: match &answer.console {
-                Some(console) => bad_of(&read, console.bad_cards),
+                Some(console) => bad_of(read, console.bad_cards),
                 None => None,
             },
             bad_keys: match &answer.console {
-                Some(console) => bad_of(&read, console.bad_keys),
+                Some(console) => bad_of(read, console.bad_keys),
                 None => None,
             },
             console,
@@ -133,15 +129,6 @@ impl fmt::Display for Message<'_> {
         let lost = LostCards(self.lost_cards);
         write!(f, "{happened}{confused}{cards}{keys}{shown}{lost}")
     }
-}
-
-// Whether a file may be named in what is said of an ending: not of one that has nothing to say of itself or of bad characters.
-fn needs_words(ending: &Ending<'_>) -> bool {
-    let has_bad = match &ending.answer.console {
-        Some(console) => console.bad_cards.first.is_some() || console.bad_keys.first.is_some(),
-        None => false,
-    };
-    has_bad || !says_nothing(ending.status)
 }
 
 // Whether a job that ends so has nothing to say of that.
@@ -198,7 +185,7 @@ fn bad_of<'a>(read: &Read<'a>, tally: Tally) -> Option<BadCharacters<'a>>
     match tally.first {
         Some(first) => Some(BadCharacters {
             first,
-            named: read.named(first.unit),
+            named: named(read, first.unit),
             count: tally.count,
         }),
         None => None,
@@ -206,29 +193,30 @@ fn bad_of<'a>(read: &Read<'a>, tally: Tally) -> Option<BadCharacters<'a>>
 }
 
 // What the source or the deck of a job that ended so looks like, where it does not look like one.
-fn confusion_of<'a>(
-    status: Status,
-    answer: &Answer,
-    words: &'a [String],
-    alloc: Global,
-) -> Option<Confusion<'a>> {
+fn confusion_of<'a>(status: Status, answer: &Answer, read: &Read<'a>) -> Option<Confusion<'a>> {
     match status {
-        Status::Refused { .. } => match &answer.refusal {
-            Some(line) => Confusion::of_source(alloc, words, line),
-            None => None,
-        },
-        Status::CheckStop { at, steps, .. } => match &answer.console {
-            Some(console) => {
-                let stopped = Stopped {
-                    at,
-                    steps,
-                    cells: console.cells,
-                    bad: console.bad_cards.first,
-                };
-                Confusion::of_deck(alloc, words, &stopped)
+        Status::Refused { .. } => {
+            let file = read.file(Unit::Source).unwrap_or(SOME_FILE);
+            match &answer.refusal {
+                Some(line) => Confusion::of_source(file, line),
+                None => None,
             }
-            None => None,
-        },
+        }
+        Status::CheckStop { at, steps, .. } => {
+            let file = read.file(Unit::Deck)?;
+            match &answer.console {
+                Some(console) => {
+                    let stopped = Stopped {
+                        at,
+                        steps,
+                        cells: console.cells,
+                        bad: console.bad_cards.first,
+                    };
+                    Confusion::of_deck(file, &stopped)
+                }
+                None => None,
+            }
+        }
         _ => None,
     }
 }

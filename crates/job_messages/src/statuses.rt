@@ -7,9 +7,9 @@ use crate::checks::{Advice, Meaning, number_of};
 use crate::faults::Fault;
 use crate::numbers::{Address, Code};
 use crate::parts::PartLine;
-use crate::words::{FileOf, Read};
+use crate::words::{FileOf, fault_file};
 use addr_indirect::Stop;
-use command_line::CoreSize;
+use command_line::{CoreSize, Read};
 use cpu_step::CheckPart;
 use ibm1620_cli::Status;
 use message_hints::{Breach, Escaped, Misuse, Refused};
@@ -32,7 +32,8 @@ pub(crate) struct Happened<'a> {
     pub(crate) refused: Option<Refused<'a>>,
     // The word that does not fit.
     pub(crate) misuse: Misuse<'a>,
-    pub(crate) read: Read<'a>,
+    // What the words of the job were read as.
+    pub(crate) read: &'a Read<'a>,
 }
 
 impl fmt::Display for Happened<'_> {
@@ -510,17 +511,17 @@ impl fmt::Display for Jam<'_> {
 #[derive(Clone, Copy)]
 struct HostFault<'a> {
     trouble: Option<&'a Trouble>,
-    read: Read<'a>,
+    read: &'a Read<'a>,
 }
 
 impl fmt::Display for HostFault<'_> {
-    ghost output = { λ h. host_fault_text (option_copied h.trouble) h.read };
+    ghost output = { λ h. host_fault_text (option_copied h.trouble) h.read.now };
 
     fn fmt<W: fmt::Write>(&self, f: &mut fmt::Formatter<W>) -> fmt::Result {
         match self.trouble {
             None => f.write_str("ibm1620: a file could not be opened, read or written\n"),
             Some(trouble) => {
-                let file = self.read.fault_file(trouble.unit);
+                let file = fault_file(self.read, trouble.unit);
                 f.write(Fault { trouble, file })
             }
         }

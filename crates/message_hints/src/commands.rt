@@ -2,8 +2,7 @@
 ghost use Rattle.std.specs.Prelude.{◌≡◌};
 ghost use Rattle.message_hints.specs.Commands.{command_word};
 
-use command_line::Command;
-use line_words::find;
+use command_line::{COMMANDS, Command};
 
 // What the value behind an option has to be.
 #[derive(Clone, Copy)]
@@ -240,22 +239,6 @@ const FOR_GENERATE: [Setting; 2] = [MADE, REPORT];
 const FOR_TRIAL: [Setting; 1] = [REPORT];
 
 const FOR_DISK: [Setting; 4] = [BOOTSTRAP, IMAGE, CORE, REPORT];
-
-// The commands, by their words.
-pub(crate) const COMMANDS: [(&str, Command); 7] = [
-    ("assemble", Command::Assemble),
-    ("load", Command::Load),
-    ("run", Command::Run),
-    ("debug", Command::Debug),
-    ("generate", Command::Generate),
-    ("trial", Command::Trial),
-    ("disk", Command::Disk),
-];
-
-// The command of a word.
-pub(crate) fn command_of(word: &str) -> Option<Command> {
-    find(&COMMANDS, word.as_bytes())
-}
 
 // The word of a command.
 pub(crate) fn word_of(command: Command) -> &'static str

@@ -4,12 +4,10 @@ ghost use Rattle.message_hints.specs.Mistakes.{confusion_text};
 
 use crate::escapes::Escaped;
 use crate::sheet::{Columns, OPERATION};
-use command_line::named_file;
 use outside_io::Unit;
 use read_checks::BadCharacter;
 use sps_listing::RefusedLine;
 use sps_ops::lookup;
-use std::alloc::Global;
 use std::fmt;
 
 // The last statement that is looked at for the first card of a deck.
@@ -19,9 +17,6 @@ const LAST_STATEMENT: u32 = 3;
 const FEWEST_DIGITS: usize = 8;
 
 const INSTRUCTION: Columns = Columns { first: 1, last: 12 };
-
-// What stands for a file whose name is not known.
-const SOME_FILE: &str = "FILE";
 
 /// What a file looks like that is given as the other.
 ///
@@ -155,33 +150,26 @@ pub struct Confusion<'w> {
 }
 
 impl<'w> Confusion<'w> {
-    /// What is said of a source that was refused so, by the words of its job; none where it does not look like a deck.
+    /// What is said of a source of this file that was refused so; none where it does not look like a deck.
     ///
     /// It looks like one where one of its first three statements is refused that has digits in the columns of an instruction, and no operation.
     /// Source: this project's own.
-    pub fn of_source(
-        alloc: Global,
-        words: &'w [String],
-        refused: &RefusedLine,
-    ) -> Option<Confusion<'w>> {
+    pub fn of_source(file: &'w str, refused: &RefusedLine) -> Option<Confusion<'w>> {
         if !is_deck(refused) {
             return None;
         }
-        let file = named_file(alloc, words, Unit::Source).unwrap_or(None);
         Some(Confusion {
             mistaken: Mistaken::Deck,
-            file: file.unwrap_or(SOME_FILE),
+            file,
         })
     }
 
-    /// What is said of a deck whose machine stopped so, by the words of its job; none where the deck does not look like a source, or the words
-    /// name none.
+    /// What is said of a deck of this file whose machine stopped so; none where the deck does not look like a source.
     ///
     /// It looks like one where the first instruction stopped the machine, and what stands there is a comment, or the beginning of a statement:
     /// blanks or numbers of page and line, blanks or a label, and the first letter of an operation.
     /// Source: this project's own.
-    pub fn of_deck(alloc: Global, words: &'w [String], stopped: &Stopped) -> Option<Confusion<'w>> {
-        let file = named_file(alloc, words, Unit::Deck).unwrap_or(None)?;
+    pub fn of_deck(file: &'w str, stopped: &Stopped) -> Option<Confusion<'w>> {
         if !stopped.is_by_source() {
             return None;
         }

@@ -1,7 +1,7 @@
 // The first word of the command line that does not fit, and why.
-use crate::commands::{Kind, Setting, command_of, is_of_others, required, setting_of};
+use crate::commands::{Kind, Setting, is_of_others, required, setting_of};
 use crate::problems::{Misuse, Problem, Takers, Wrong};
-use command_line::Command;
+use command_line::{Command, command_of};
 use line_words::{number, number_in};
 
 impl<'w> Misuse<'w> {

@@ -1,5 +1,5 @@
 // Which words are plain, and what they say.
-use command_line::{Command, CoreSize, named_file, plain_words};
+use command_line::{Command, CoreSize, Read, plain_words};
 use deck_punch::DeckForm;
 use outside_io::Unit;
 use std::alloc::{AllocError, Global};
@@ -32,8 +32,9 @@ fn plain_words_name_files_and_numbers(rt: HostRuntime) -> Result<(), Fail> {
     assert!(rt; plain.names.get(Unit::Deck) == Some("one.txt"));
     assert!(rt; plain.names.get(Unit::Typed) == Some("typed.txt"));
     assert!(rt; plain.names.get(Unit::Data).is_none());
-    assert!(rt; named_file(rt.alloc(), &words, Unit::Deck)? == Some("one.txt"));
-    assert!(rt; named_file(rt.alloc(), &words, Unit::Report)?.is_none());
+    let read = Read::of(rt.alloc(), &words);
+    assert!(rt; read.file(Unit::Deck) == Some("one.txt"));
+    assert!(rt; read.file(Unit::Report).is_none());
     Ok(())
 }
 
@@ -156,7 +157,7 @@ fn other_words_are_not_plain(rt: HostRuntime) -> Result<(), Fail> {
     for texts in OTHERS {
         let words = words_from(rt.alloc(), texts)?;
         assert!(rt; plain_words(rt.alloc(), &words)?.is_none());
-        assert!(rt; named_file(rt.alloc(), &words, Unit::Deck)?.is_none());
+        assert!(rt; Read::of(rt.alloc(), &words).file(Unit::Deck).is_none());
     }
     Ok(())
 }
