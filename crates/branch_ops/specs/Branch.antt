@@ -1,13 +1,13 @@
 -- The rows of the branches: where the next instruction stands, and IR-2.
 -- Source: CPU manual, operation codes and branch instructions; the order of the checks, and that P of 17 and 27 is not
 -- 00000, are this project's own.
-use Rattle.std.specs.Prelude.{ℕ, Bool, ◌+◌, ◌-◌, ◌==◌, not, List, map, if◌then◌else◌, Option, Some, None, Ok, Err, unwrap_or}
+use Rattle.std.specs.Prelude.{ℕ, Bool, ◌+◌, ◌-◌, ◌==◌, not, List, map, if◌then◌else◌, Option, Some, None, Ok, Err}
 use Rattle.digit_core.specs.declared.Digit.{Digit}
 use Rattle.digit_core.specs.declared.TheConstants.{RECORD_MARK, GROUP_MARK}
 use Rattle.addr_indirect.specs.declared.Stop.{Stop}
 use Rattle.addr_indirect.specs.declared.Stop.TheVariants.{Address}
 use Rattle.addr_indirect.specs.declared.Instr.{Instr}
-use Rattle.addr_indirect.specs.{read_at, p_operand, q_operand, immediate_q, q8_q9}
+use Rattle.addr_indirect.specs.{read_at}
 use Rattle.indicators.specs.declared.Panel.{Panel}
 use Rattle.indicators.specs.Panel.{on}
 use Rattle.indicators.specs.Lamps.{test_lamps}
@@ -16,6 +16,8 @@ use Rattle.traces.specs.Change.{Change, Stores, Lights}
 use Rattle.field_moves.specs.Move.{move_field}
 use Rattle.branch_ops.specs.declared.Regs.{Regs}
 use Rattle.branch_ops.specs.Registers.{on_at}
+use Rattle.branch_ops.specs.Operands.{operands_used, branch_operands}
+use Rattle.branch_ops.specs.declared.rows.BranchOperands.{BranchOperands}
 use Rattle.branch_ops.specs.declared.BranchOp.{BranchOp}
 use Rattle.branch_ops.specs.declared.BranchOp.TheVariants.{Bt, Btm, Bb, Bd, Bnf, Bnr, Bng, Bi, Bni, B}
 
@@ -50,46 +52,25 @@ go_by_digit core r p q test = do
   d ← read_at core q
   ends (Ok (go_if r (test d) p))
 
--- the indicator that Q8 Q9 name; 0, which is none, where one of them is over 9
-abbrev pub tested_code : Instr → ℕ
-tested_code i = unwrap_or (q8_q9 i) 0
-
 -- BI, BNI: the indicator is tested, and P is gone to by what it was
 abbrev pub go_by_indicator : Regs → ℕ → ℕ → Bool → Trace Change Regs Stop
 go_by_indicator r p code test = does_all (map Lights (test_lamps code)) (ends (Ok (go_if r test p)))
 
--- the row of each branch; P's operand and Q's are worked out whether or not the branch is taken
+-- what each branch does over its operands
+abbrev pub branch_over : BranchOp → BranchOperands → List ℕ → Regs → Panel → Trace Change Regs Stop
+branch_over Bt o core r panel = transmit core r o.p o.q
+branch_over Btm o core r panel = transmit core r o.p o.q
+branch_over Bb o core r panel = ends (Ok (on_at r r.ir2))
+branch_over Bd o core r panel = go_by_digit core r o.p o.q (λ d. not (d.value == 0))
+branch_over Bnf o core r panel = go_by_digit core r o.p o.q (λ d. not d.flag)
+branch_over Bnr o core r panel = go_by_digit core r o.p o.q (λ d. not (d.value == RECORD_MARK))
+branch_over Bng o core r panel = go_by_digit core r o.p o.q (λ d. not (d.value == GROUP_MARK))
+branch_over Bi o core r panel = go_by_indicator r o.p o.code (on o.code panel)
+branch_over Bni o core r panel = go_by_indicator r o.p o.code (not (on o.code panel))
+branch_over B o core r panel = ends (Ok (on_at r o.p))
+
+-- the row of each branch: its operands are worked out, whether or not it is taken, and then it does what it does over them
 unfoldable pub branch : BranchOp → List ℕ → Regs → Panel → Instr → Trace Change Regs Stop
-branch Bt core r panel i = do
-  p ← p_operand core r.ir
-  q ← q_operand core r.ir
-  transmit core r p q
-branch Btm core r panel i = do
-  p ← p_operand core r.ir
-  transmit core r p (immediate_q r.ir)
-branch Bb core r panel i = ends (Ok (on_at r r.ir2))
-branch Bd core r panel i = do
-  p ← p_operand core r.ir
-  q ← q_operand core r.ir
-  go_by_digit core r p q (λ d. not (d.value == 0))
-branch Bnf core r panel i = do
-  p ← p_operand core r.ir
-  q ← q_operand core r.ir
-  go_by_digit core r p q (λ d. not d.flag)
-branch Bnr core r panel i = do
-  p ← p_operand core r.ir
-  q ← q_operand core r.ir
-  go_by_digit core r p q (λ d. not (d.value == RECORD_MARK))
-branch Bng core r panel i = do
-  p ← p_operand core r.ir
-  q ← q_operand core r.ir
-  go_by_digit core r p q (λ d. not (d.value == GROUP_MARK))
-branch Bi core r panel i = do
-  p ← p_operand core r.ir
-  go_by_indicator r p (tested_code i) (on (tested_code i) panel)
-branch Bni core r panel i = do
-  p ← p_operand core r.ir
-  go_by_indicator r p (tested_code i) (not (on (tested_code i) panel))
-branch B core r panel i = do
-  p ← p_operand core r.ir
-  ends (Ok (on_at r p))
+branch op core r panel i = do
+  o ← branch_operands (operands_used op) core r.ir i
+  branch_over op o core r panel

@@ -9,7 +9,8 @@ use Rattle.traces.specs.Trace.{Trace, map_answer}
 use Rattle.traces.specs.Change.{Change, core_after_changes, panel_after_changes}
 use Rattle.branch_ops.specs.declared.Regs.{Regs}
 use Rattle.branch_ops.specs.declared.BranchOp.{BranchOp}
-use Rattle.branch_ops.specs.Branch.{branch_of, branch, transmit}
+use Rattle.branch_ops.specs.declared.rows.BranchOperands.{BranchOperands}
+use Rattle.branch_ops.specs.Branch.{branch_of, branch, branch_over, transmit}
 
 -- the branch that an instruction is, by its opcode
 abbrev pub branch_in : Instr → Option BranchOp
@@ -54,3 +55,18 @@ CarriesOut i old new result = IfSome (branch_in i) (λ b. Carries b i old new re
 abbrev pub Transmits : List ℕ → Regs → ℕ → ℕ → List ℕ → Regs → Result ℕ Stop → Type 0
 Transmits core regs p q new new_regs result =
     (panel : Panel) → Branches core panel regs (transmit core regs p q) new panel new_regs result
+
+-- this branch was carried out over operands that are known
+abbrev pub CarriesKnown : BranchOp → BranchOperands → Processor → Processor → Result ℕ Stop → Type 0
+CarriesKnown op o old new result =
+    Branches old.core old.panel old.regs (branch_over op o old.core old.regs old.panel) new.core new.panel new.regs result
+
+-- a branch by a digit did what it does over P and Q; the panel, which it doesn't look at, stays
+abbrev pub GoesByDigit : BranchOp → List ℕ → Regs → ℕ → ℕ → Result ℕ Stop → Type 0
+GoesByDigit op core r p q result =
+    (panel : Panel) → Branches core panel r (branch_over op (record { p = p; q = q; code = 0 }) core r panel) core panel r result
+
+-- a branch by an indicator did what it does over P, and tested this one
+abbrev pub GoesByTest : BranchOp → List ℕ → Panel → Regs → ℕ → ℕ → Panel → ℕ → Type 0
+GoesByTest op core panel r p code new_panel to =
+    Branches core panel r (branch_over op (record { p = p; q = 0; code = code }) core r panel) core new_panel r (Ok to)

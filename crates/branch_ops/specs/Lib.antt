@@ -1,4 +1,4 @@
 pub mod Registers
+pub mod Operands
 pub mod Branch
 pub mod Carried
-pub mod Operands

@@ -2,10 +2,10 @@
 ghost use Rattle.std.specs.Prelude.{◌≡◌, ◌+◌, ◌<◌, ◌≤◌, ◌^◌, if◌then◌else◌, IsSome, OnErr, OnOk, IfOk, Ok, List, ℕ};
 ghost use Rattle.digit_core.specs.Size.{size};
 ghost use Rattle.addr_indirect.specs.Fetch.{fetch};
-ghost use Rattle.branch_ops.specs.Branch.{tested_code, go_if};
+ghost use Rattle.branch_ops.specs.Branch.{go_if};
 ghost use Rattle.branch_ops.specs.declared.BranchOp.TheVariants.{Bd, Bnf, Bnr, Bng, Bi, Bni};
-ghost use Rattle.branch_ops.specs.Carried.{branch_in, processor, Carries, CarriesOut, Transmits};
-ghost use Rattle.branch_ops.specs.Operands.{operands_used, CarriesKnown, Works, GoesByDigit, GoesByTest};
+ghost use Rattle.branch_ops.specs.Carried.{branch_in, processor, Carries, CarriesKnown, CarriesOut, GoesByDigit, GoesByTest, Transmits};
+ghost use Rattle.branch_ops.specs.Operands.{branch_operands, operands_used, tested_code};
 
 use crate::{BranchOp, Regs, branch_of};
 use addr_indirect::{Instr, Stop, immediate_q, p_operand, q_operand, read_at};
@@ -163,7 +163,7 @@ fn operands<const M: u32>(
     instr: &Instr,
 ) -> Result<BranchOperands, Stop>
     requires { ir + 12 ≤ size M }
-    ensures is { Works op core.now ir instr.now result }
+    ensures is { result ≡ branch_operands (operands_used op) core.now ir instr.now }
     ensures p { IfOk result (λ o. o.p < size M) }
     ensures q { IfOk result (λ o. o.q < size M) }
 {

@@ -1,5 +1,5 @@
 -- What twelve good cells come to.
-use Rattle.std.proofs.Common.{ℕ, ◌≡◌, ◌+◌, ◌%◌, ◌==◌, ◌<◌, ◌≤◌, ◌⊎◌, inl, inr, Bool, true, false, not, List, length, Ok, Err, Some, None, refl, sym, ap, subst, ◌∙◌, arith}
+use Rattle.std.proofs.Common.{ℕ, ◌≡◌, ◌+◌, ◌%◌, ◌==◌, ◌<◌, ◌≤◌, Bool, true, false, not, List, length, Ok, Err, Some, None, refl, sym, ap, subst, ◌∙◌, arith}
 use Rattle.std.specs.Prelude.{if◌then◌else◌, count_ones, Option, Result}
 use Rattle.std.proofs.lemmas.Bool.Decides.{nat_tests}
 use Rattle.digit_core.specs.declared.Digit.{Digit}
@@ -10,23 +10,15 @@ use Rattle.digit_core.specs.Packed.{six}
 use Rattle.digit_core.specs.Search.{is_bad}
 use Rattle.addr_indirect.specs.declared.Stop.{Stop}
 use Rattle.addr_indirect.specs.declared.Stop.TheVariants.{EvenAlpha}
-use Rattle.addr_indirect.specs.declared.Instr.{Instr}
 use Rattle.addr_indirect.specs.Steps.{◌>>=◌}
 use Rattle.addr_indirect.specs.Fetch.{fetch, opcode}
-use Rattle.addr_indirect.specs.Operands.{p_operand, q_operand, immediate_q}
+use Rattle.addr_indirect.specs.Operands.{p_operand, q_operand}
 use Rattle.addr_indirect.proofs.Windows.{reads_in, up_more, up_none, fetch_is}
-use Rattle.branch_ops.specs.declared.BranchOp.{BranchOp}
-use Rattle.branch_ops.specs.declared.rows.BranchUses.{BranchUses}
-use Rattle.branch_ops.specs.declared.rows.BranchUses.TheVariants as by
-use Rattle.branch_ops.specs.declared.Regs.{Regs}
-use Rattle.branch_ops.specs.Branch.{branch, tested_code}
-use Rattle.branch_ops.proofs.Known.{first_stops, second_stops}
-use Rattle.indicators.specs.declared.Panel.{Panel}
-use Rattle.traces.specs.Trace.{ends}
-use Rattle.branch_ops.specs.Operands as branches
+use Rattle.branch_ops.specs.declared.BranchOp.TheVariants.{B}
 use Rattle.cpu_step.specs.declared.rows.Row.{Row}
+use Rattle.cpu_step.specs.declared.rows.Row.TheVariants as rows
 use Rattle.cpu_step.specs.declared.rows.Uses.{Uses}
-use Rattle.cpu_step.specs.declared.rows.Uses.TheVariants.{Both, OddBoth, First, OddFirst}
+use Rattle.cpu_step.specs.declared.rows.Uses.TheVariants.{Both, OddBoth, OddFirst}
 use Rattle.cpu_step.specs.declared.rows.Operands.{Operands}
 use Rattle.cpu_step.specs.declared.fields.Fields.{Fields}
 use Rattle.cpu_step.specs.declared.memo.Known.{Known}
@@ -34,7 +26,7 @@ use Rattle.cpu_step.specs.declared.memo.Known.TheVariants as known
 use Rattle.cpu_step.specs.Rows.{instruction_row, row_by, row_of_code, uses}
 use Rattle.cpu_step.specs.Act.{operands}
 use Rattle.cpu_step.specs.Fields.{number_in, fields_used, operands_at, HoldOperands}
-use Rattle.cpu_step.specs.Known.{digits_in, instr_at, AreGood, AreTwelve, AreSettled, IsRow, uses_as, branch_uses, IsBranch, IsKnown, operands_of_branch, ComesToRow, ComesToBranch, ComesTo}
+use Rattle.cpu_step.specs.Known.{digits_in, instr_at, AreGood, AreTwelve, AreSettled, IsRow, IsKnown, code_in, ComesToRow, ComesTo}
 use Rattle.cpu_step.proofs.Fielded.{fields_hold}
 
 -- whatever the two tests of a cell say
@@ -72,39 +64,6 @@ module _ (ir low high : ℕ) where
 same_pair : (p q : ℕ) (o : Operands) → ◌≡◌ {A = Result Operands Stop} (Ok (record { p = p; q = q })) (Ok o) → (p ≡ o.p) × (q ≡ o.q)
 same_pair p q o is = let e : record { p = p; q = q } ≡ o = cc in (ap (λ (x : Operands). x.p) e, ap (λ (x : Operands). x.q) e)
 
-pair_of : (r s : Result ℕ Stop) (o : Operands) → (r >>= (λ p. s >>= (λ q. Ok (record { p = p; q = q })))) ≡ Ok o → (r ≡ Ok o.p) × (s ≡ Ok o.q)
-pair_of (Ok p) (Ok q) o is = let e = same_pair p q o is in (ap Ok e.0, ap Ok e.1)
-pair_of (Ok p) (Err why) o is = cc
-pair_of (Err why) s o is = cc
-
-first_of : (r : Result ℕ Stop) (q : ℕ) (o : Operands) → (r >>= (λ p. Ok (record { p = p; q = q }))) ≡ Ok o → (r ≡ Ok o.p) × (q ≡ o.q)
-first_of (Ok p) q o is = let e = same_pair p q o is in (ap Ok e.0, e.1)
-first_of (Err why) q o is = cc
-
--- what stopped there
-first_err : (r : Result ℕ Stop) (q : ℕ) (why : Stop) → ◌≡◌ {A = Result Operands Stop} (r >>= (λ p. Ok (record { p = p; q = q }))) (Err why) → r ≡ Err why
-first_err (Ok p) q why is = cc
-first_err (Err e) q why is = cc
-
-pair_err : (r s : Result ℕ Stop) (why : Stop) → ◌≡◌ {A = Result Operands Stop} (r >>= (λ p. s >>= (λ q. Ok (record { p = p; q = q })))) (Err why) → (r ≡ Err why) ⊎ ((p : ℕ) × ((r ≡ Ok p) × (s ≡ Err why)))
-pair_err (Ok p) (Ok q) why is = cc
-pair_err (Ok p) (Err e) why is = inr (p, (refl, cc))
-pair_err (Err e) s why is = inl (cc)
-
--- a branch stops where its operands do
-module _ (core : List ℕ) (ir : ℕ) (op : BranchOp) (i : Instr) (why : Stop) (r : Regs) (panel : Panel) (same : r.ir ≡ ir) where
-  stops_by : (u : BranchUses) → branches.operands_used op ≡ u → operands (uses_as u) core ir ≡ Err why → branch op core r panel i ≡ ends (Err why)
-  stops_by by.Both e is = elim (pair_err (p_operand core ir) (q_operand core ir) why is) [
-    | inl first ↦ first_stops core panel r i op why (rw e refl) (rw same first)
-    | inr second ↦ second_stops core panel r i op why second.0 e (rw same second.1.0) (rw same second.1.1)
-  ]
-  stops_by by.Immediate e is = first_stops core panel r i op why (rw e refl) (rw same (first_err (p_operand core ir) (immediate_q ir) why is))
-  stops_by by.Neither e is = cc
-  stops_by u e is = first_stops core panel r i op why (rw e refl) (rw same (first_err (p_operand core ir) 0 why is))
-
-  pub branch_stops : operands (branch_uses op) core ir ≡ Err why → branch op core r panel i ≡ ends (Err why)
-  branch_stops is = stops_by (branches.operands_used op) refl is
-
 -- P was seen to be odd
 passed_odd : (p q : ℕ) (b : Bool) (o : Operands) → p % 2 == 0 ≡ b → (if b then Err EvenAlpha else Ok (record { p = p; q = q })) ≡ Ok o → o.p % 2 ≡ 1
 passed_odd p q true o test is = cc
@@ -128,29 +87,6 @@ module _ (core : List ℕ) (ir : ℕ) (o : Operands) where
   pub pair_odd : (u : Uses) → operands u core ir ≡ Ok o → u ≡ OddBoth → o.p % 2 ≡ 1
   pair_odd OddBoth is e = odd_pair (p_operand core ir) (q_operand core ir) o is
   pair_odd u is e = cc
-
-  -- those of a branch
-  first_is : (u : BranchUses) → operands (uses_as u) core ir ≡ Ok o → branches.uses_first u ≡ true → p_operand core ir ≡ Ok o.p
-  first_is by.Both is e = (pair_of (p_operand core ir) (q_operand core ir) o is).0
-  first_is by.Immediate is e = (first_of (p_operand core ir) (immediate_q ir) o is).0
-  first_is by.Neither is e = cc
-  first_is u is e = (first_of (p_operand core ir) 0 o is).0
-
-  second_is : (u : BranchUses) → operands (uses_as u) core ir ≡ Ok o → u ≡ by.Both → q_operand core ir ≡ Ok o.q
-  second_is by.Both is e = (pair_of (p_operand core ir) (q_operand core ir) o is).1
-  second_is u is e = cc
-
-  own_is : (u : BranchUses) → operands (uses_as u) core ir ≡ Ok o → u ≡ by.Immediate → o.q ≡ immediate_q ir
-  own_is by.Immediate is e = sym (first_of (p_operand core ir) (immediate_q ir) o is).1
-  own_is u is e = cc
-
-  pub branch_known : (op : BranchOp) (i : Instr) (code : ℕ) → operands (branch_uses op) core ir ≡ Ok o → code ≡ tested_code i → branches.IsKnown op core ir i (operands_of_branch o code)
-  branch_known op i code is tests = record {
-    first = first_is (branches.operands_used op) is;
-    second = second_is (branches.operands_used op) is;
-    own = own_is (branches.operands_used op) is;
-    tested = λ e. tests;
-  }
 
 module _ (m low high : ℕ) (good : AreGood low high) (core : List ℕ) (ir : ℕ) (t : AreTwelve m core ir low high) where
   long : length core ≡ size m
@@ -210,7 +146,6 @@ module _ (m low high : ℕ) (good : AreGood low high) (core : List ℕ) (ir : �
     row_comes : (row : Row) → IsRow (instr_at 0 low high) row f → ComesToRow core ir low high row (operands_at ir f)
     row_comes row is = record {
       fetched = fetched;
-      no_branch = is.no_branch;
       row_is = same_row ir low high ∙ is.row_is;
       operands_are = come (uses row) is.fields_are;
       inside = inside;
@@ -220,85 +155,41 @@ module _ (m low high : ℕ) (good : AreGood low high) (core : List ℕ) (ir : �
       odd_pairs = pair_odd core ir (operands_at ir f) (uses row) (come (uses row) is.fields_are);
     }
 
-    branch_comes : (op : BranchOp) (code : ℕ) → IsBranch (instr_at 0 low high) op f code → ComesToBranch core ir low high op (operands_of_branch (operands_at ir f) code)
-    branch_comes op code is = record {
-      fetched = fetched;
-      is = is.is;
-      operands_are = branch_known core ir (operands_at ir f) op (instr_at ir low high) code (come (branch_uses op) is.fields_are) is.code_is;
-      inside = inside;
-      p_inside = p_below;
-      q_inside = q_below;
-    }
-
   pub comes : (k : Known) → IsKnown (instr_at 0 low high) (size m) k → ComesTo core ir low high k
   comes (known.Goes p) is = record {
     to_b = λ v e.
         let same : p ≡ v = cc in
-        let first : p_operand core ir ≡ Ok p = rw is.p_is (first_is core ir (operands_at ir (fields_used First (instr_at 0 low high))) by.First (come (fields_used First (instr_at 0 low high)) is.settled First refl) refl) in
-        rw (← same) (record { fetched = fetched; is = is.is; p_is = first });
-    to_branch = λ op f code e. absurd (cc);
+        let o_is : operands_at ir is.f ≡ record { p = p; q = 0 } = rw (is.p_is, is.is.fields_are) refl in
+        let code_is : code_in (instruction_row (instr_at ir low high)) ≡ is.code = ap code_in (same_row ir low high ∙ is.is.row_is) in
+        rw (← same)
+        (subst (λ (c : ℕ). ComesToRow core ir low high (rows.Branch B c) (record { p = p; q = 0 })) (sym code_is)
+        (subst (λ (o : Operands). ComesToRow core ir low high (rows.Branch B is.code) o) o_is (row_comes is.f is.settled (rows.Branch B is.code) is.is)));
     to_row = λ row f e. absurd (cc);
-    to_chained_branch = λ op f code e. absurd (cc);
-    to_chained_row = λ row f e. absurd (cc);
+    to_chained = λ row f e. absurd (cc);
   }
   comes (known.Row row f) is = record {
     to_b = λ v e. absurd (cc);
-    to_branch = λ op x code e. absurd (cc);
     to_row = λ other x e.
         let same_row_is : row ≡ other = cc in
         let same_f : f ≡ x = cc in
         rw (← same_row_is, ← same_f) (row_comes f is.1 row is.0);
-    to_chained_branch = λ op x code e. absurd (cc);
-    to_chained_row = λ other x e. absurd (cc);
+    to_chained = λ other x e. absurd (cc);
   }
-  comes (known.Branch op f code) is = record {
+  comes (known.Chained row f) is = record {
     to_b = λ v e. absurd (cc);
-    to_branch = λ other x c e.
-        let same_op : op ≡ other = cc in
-        let same_f : f ≡ x = cc in
-        let same_code : code ≡ c = cc in
-        rw (← same_op, ← same_f, ← same_code) (branch_comes f is.1 op code is.0);
-    to_row = λ row x e. absurd (cc);
-    to_chained_branch = λ other x c e. absurd (cc);
-    to_chained_row = λ row x e. absurd (cc);
-  }
-  comes (known.ChainedRow row f) is = record {
-    to_b = λ v e. absurd (cc);
-    to_branch = λ op x code e. absurd (cc);
     to_row = λ other x e. absurd (cc);
-    to_chained_branch = λ op x code e. absurd (cc);
-    to_chained_row = λ other x e.
+    to_chained = λ other x e.
         let same_row_is : row ≡ other = cc in
         let same_f : f ≡ x = cc in
         rw (← same_row_is, ← same_f) (record {
           fetched = fetched;
-          no_branch = is.no_branch;
           row_is = same_row ir low high ∙ is.row_is;
           operands_are = holds (uses row) f is.fields_are;
           inside = inside;
         });
   }
-  comes (known.ChainedBranch op f code) is = record {
-    to_b = λ v e. absurd (cc);
-    to_branch = λ other x c e. absurd (cc);
-    to_row = λ row x e. absurd (cc);
-    to_chained_branch = λ other x c e.
-        let same_op : op ≡ other = cc in
-        let same_f : f ≡ x = cc in
-        let same_code : code ≡ c = cc in
-        rw (← same_op, ← same_f, ← same_code) (record {
-          fetched = fetched;
-          is = is.is;
-          operands_are = holds (branch_uses op) f is.fields_are;
-          code_is = is.code_is;
-          inside = inside;
-        });
-    to_chained_row = λ row x e. absurd (cc);
-  }
   comes known.Other is = record {
     to_b = λ v e. absurd (cc);
-    to_branch = λ op f code e. absurd (cc);
     to_row = λ row f e. absurd (cc);
-    to_chained_branch = λ op f code e. absurd (cc);
-    to_chained_row = λ row f e. absurd (cc);
+    to_chained = λ row f e. absurd (cc);
   }

@@ -126,8 +126,6 @@ pub nothing : (core : List ℕ) (ir low high : ℕ) → ComesTo core ir low high
 nothing core ir low high =
     record {
       to_b = λ p e. cc;
-      to_branch = λ op o code e. cc;
       to_row = λ row o e. cc;
-      to_chained_branch = λ op o code e. cc;
-      to_chained_row = λ row o e. cc;
+      to_chained = λ row o e. cc;
     }

@@ -1,19 +1,30 @@
 -- What the action of each row stores.
-use Rattle.std.proofs.Common.{◌≡◌, ◌≢◌, ℕ, suc, ◌%◌, ◌<◌, inl, inr, true, false, List, [], ◌∷◌, map, length, get_or, refl, sym, ap, subst, arith}
+use Rattle.std.proofs.Common.{◌≡◌, ◌≢◌, ℕ, suc, ◌+◌, ◌%◌, ◌<◌, ◌==◌, inl, inr, Bool, true, false, not, List, [], ◌∷◌, map, length, get_or, refl, sym, ap, subst, arith}
 use Rattle.std.proofs.lemmas.List.{get_or-set_other}
-use Rattle.std.specs.Prelude.{Result, Ok, Err, ⊤}
+use Rattle.std.specs.Prelude.{◌-◌, Result, Ok, Err, ⊤, if◌then◌else◌}
 use Rattle.digit_core.specs.declared.Digit.{Digit}
 use Rattle.digit_core.specs.Cell.{cell, with_flag}
 use Rattle.addr_indirect.specs.declared.Stop.{Stop}
+use Rattle.addr_indirect.specs.declared.Stop.TheVariants.{Address}
 use Rattle.addr_indirect.specs.Reading.{read_at}
-use Rattle.traces.specs.Trace.{Trace, ends, lift, and_then, ◌>>=◌}
+use Rattle.traces.specs.Trace.{Trace, ends, lift, and_then, with_answer, ◌>>=◌}
+use Rattle.traces.specs.Change.{Change, Stores, core_after_changes}
 use Rattle.traces.specs.Stored.{Stored, stores, core_after}
 use Rattle.traces.specs.Break.{or_break, stop_as_break}
 use Rattle.card_code.specs.{Output, Writes, Warns}
 use Rattle.field_moves.specs.Move.{copy_digit, move_field, move_record}
 use Rattle.field_moves.specs.Flag.{set_flag, clear_flag}
 use Rattle.feature_ops.specs.Feature.{strip, fill}
-use Rattle.indicators.specs.Panel.{set}
+use Rattle.digit_core.specs.declared.TheConstants.{RECORD_MARK, GROUP_MARK}
+use Rattle.indicators.specs.declared.Panel.{Panel}
+use Rattle.indicators.specs.Panel.{set, on}
+use Rattle.indicators.specs.Lamps.{test_lamps}
+use Rattle.branch_ops.specs.declared.Regs.{Regs}
+use Rattle.branch_ops.specs.declared.BranchOp.{BranchOp}
+use Rattle.branch_ops.specs.declared.BranchOp.TheVariants as op
+use Rattle.branch_ops.specs.declared.rows.BranchOperands.{BranchOperands}
+use Rattle.branch_ops.specs.Branch.{transmit, go_by_digit, go_by_indicator, go_if, branch_over}
+use Rattle.branch_ops.proofs.Changes.{core_stored, core_lit}
 use Rattle.table_arith.specs.declared.Kind.{Kind}
 use Rattle.table_arith.specs.declared.Shown.{Shown}
 use Rattle.table_arith.specs.Sum.{sum, comparison}
@@ -30,15 +41,15 @@ use Rattle.cpu_step.specs.declared.rows.CardRow.TheVariants as cards
 use Rattle.cpu_step.specs.declared.rows.Uses.TheVariants.{OddBoth}
 use Rattle.cpu_step.specs.Rows.{uses, move_uses}
 use Rattle.cpu_step.specs.declared.rows.Operands.{Operands}
-use Rattle.cpu_step.specs.declared.stores.Stores.{Stores}
+use Rattle.cpu_step.specs.declared.stores.Stores as may
 use Rattle.cpu_step.specs.declared.stores.Stores.TheVariants as kinds
 use Rattle.cpu_step.specs.State.{State}
 use Rattle.cpu_step.specs.Effects.{Cell, Punched, Typed, of_punch, of_typing, with_bytes, after}
 use Rattle.card_unit.specs.Punch.{punch_numeric, punch_alphameric, punch_dump}
 use Rattle.typewriter.specs.Typing.{control, write_numeric, write_alphameric, write_dump}
-use Rattle.cpu_step.specs.Act.{show_result, sum_action, comparison_action, move_action, typing_action, pair_typing_action, punch_action, pair_punch_action, on_console, on_cards, in_out, move_of, action}
-use Rattle.cpu_step.specs.Stores.{KeepsOutside, console_stores, card_stores, unit_stores, move_stores, row_stores}
-use Rattle.cpu_step.proofs.Parts.{after_cells, after_shown, after_sum}
+use Rattle.cpu_step.specs.Act.{show_result, sum_action, comparison_action, move_action, typing_action, pair_typing_action, punch_action, pair_punch_action, on_console, on_cards, in_out, move_of, operands_of_branch, branch_by, action}
+use Rattle.cpu_step.specs.Stores.{KeepsOutside, console_stores, card_stores, unit_stores, move_stores, transmit_stores, branch_stores, row_stores}
+use Rattle.cpu_step.proofs.Parts.{after_cells, after_changes, after_shown, after_sum}
 use Rattle.cpu_step.proofs.FieldStores.{Sinks, move_sinks}
 use Rattle.cpu_step.proofs.SumStores.{sum_sinks}
 use Rattle.cpu_step.proofs.RecordStores.{Rises, record_rises}
@@ -75,7 +86,7 @@ one_cell core p change (Ok d) a other = get_or-set_other core p a (cell (change 
 one_cell core p change (Err why) a other = refl
 
 -- A row whose stores are those of a trace over core.
-move_keeps : (stores : Stores) (s : State) (t : Trace Stored ⊤ Stop) → KeepsOutside stores s.core (core_after s.core t.effects) → KeepsOutside stores s.core (after s (move_action s t).effects).core
+move_keeps : (stores : may.Stores) (s : State) (t : Trace Stored ⊤ Stop) → KeepsOutside stores s.core (core_after s.core t.effects) → KeepsOutside stores s.core (after s (move_action s t).effects).core
 move_keeps stores s t within = subst (λ (new : List ℕ). KeepsOutside stores s.core new) (sym (core_cells t.effects s)) within
 
 sum_keeps : (s : State) (p q : ℕ) (kind : Kind) → p < length s.core → KeepsOutside (kinds.Down p) s.core (after s (sum_action s (sum kind s.core p q)).effects).core
@@ -189,6 +200,50 @@ moves_keep moves.Flag o s inside second odd = λ a out. absurd out
 moves_keep moves.Strip o s inside second odd = strip_stores s o.p o.q second
 moves_keep moves.Fill o s inside second odd = fill_stores s o.p o.q inside (odd refl)
 
+-- what a branch reads first leaves core, and so does what follows
+read_first : {A : Type 0} (core : List ℕ) (r : Result A Stop) (f : A → Trace Change Regs Stop) → ((x : A) → core_after_changes core (f x).effects ≡ core) → core_after_changes core (r >>= f).effects ≡ core
+read_first core (Ok x) f rest = rest x
+read_first core (Err why) f rest = refl
+
+module _ (core : List ℕ) (r : Regs) (panel : Panel) where
+  -- BT, BTM
+  abbrev transmit_by : Bool → ℕ → ℕ → Trace Change Regs Stop
+  transmit_by b p q = if b then ends (Err Address) else with_answer (λ _. record { ir = p; ir2 = r.ir + 12 }) (lift Stores (move_field core (p - 1) q))
+
+  transmit_keeps : (p q : ℕ) → p < length core → KeepsOutside (transmit_stores p) core (core_after_changes core (transmit core r p q).effects)
+  transmit_keeps p q inside = by_zero (p == 0)
+    where
+      by_zero : (b : Bool) → KeepsOutside (if b then kinds.Nothing else kinds.Down (p - 1)) core (core_after_changes core (transmit_by b p q).effects)
+      by_zero true = λ a out. refl
+      by_zero false =
+          subst (λ (new : List ℕ). KeepsOutside (kinds.Down (p - 1)) core new) (sym (core_stored core (move_field core (p - 1) q).effects))
+          (within_down core (core_after core (move_field core (p - 1) q).effects) (p - 1) (move_sinks core (p - 1) q (omega (arith, inside))))
+
+  -- BD, BNF, BNR, BNG
+  digit_keeps : (p q : ℕ) (test : Digit → Bool) → KeepsOutside kinds.Nothing core (core_after_changes core (go_by_digit core r p q test).effects)
+  digit_keeps p q test = keeps_all core (core_after_changes core (go_by_digit core r p q test).effects) (read_first core (read_at core q) (λ d. ends (Ok (go_if r (test d) p))) (λ d. refl))
+
+  -- BI, BNI
+  indicator_keeps : (p code : ℕ) (test : Bool) → KeepsOutside kinds.Nothing core (core_after_changes core (go_by_indicator r p code test).effects)
+  indicator_keeps p code test = keeps_all core (core_after_changes core (go_by_indicator r p code test).effects) (core_lit core (test_lamps code))
+
+  branch_keeps : (b : BranchOp) (o : BranchOperands) → o.p < length core → KeepsOutside (branch_stores b o.p) core (core_after_changes core (branch_over b o core r panel).effects)
+  branch_keeps op.Bt o inside = transmit_keeps o.p o.q inside
+  branch_keeps op.Btm o inside = transmit_keeps o.p o.q inside
+  branch_keeps op.Bb o inside = λ a out. refl
+  branch_keeps op.Bd o inside = digit_keeps o.p o.q (λ d. not (d.value == 0))
+  branch_keeps op.Bnf o inside = digit_keeps o.p o.q (λ d. not d.flag)
+  branch_keeps op.Bnr o inside = digit_keeps o.p o.q (λ d. not (d.value == RECORD_MARK))
+  branch_keeps op.Bng o inside = digit_keeps o.p o.q (λ d. not (d.value == GROUP_MARK))
+  branch_keeps op.Bi o inside = indicator_keeps o.p o.code (on o.code panel)
+  branch_keeps op.Bni o inside = indicator_keeps o.p o.code (not (on o.code panel))
+  branch_keeps op.B o inside = λ a out. refl
+
+branch_row_keeps : (b : BranchOp) (o : BranchOperands) (s : State) → o.p < length s.core → KeepsOutside (branch_stores b o.p) s.core (after s (branch_by b o s).effects).core
+branch_row_keeps b o s inside =
+    let t : Trace Change Regs Stop = branch_over b o s.core s.regs s.panel in
+    subst (λ (new : List ℕ). KeepsOutside (branch_stores b o.p) s.core new) (sym (ap (λ (x : State). x.core) (after_changes t.effects s))) (branch_keeps s.core s.regs s.panel b o inside)
+
 -- EACH ROW STORES WITHIN WHAT IT MAY.
 pub row_keeps : (r : Row) (o : Operands) (s : State) → o.p < length s.core → o.q < length s.core → (uses r ≡ OddBoth → o.p % 2 ≡ 1) → KeepsOutside (row_stores r o) s.core (after s (action r o s).effects).core
 unfolding action
@@ -196,5 +251,6 @@ row_keeps (row.Sum kind which) o s inside second odd = sum_stores kind s o.p o.q
 row_keeps (row.Compare which) o s inside second odd = comparison_stores s o.p o.q
 row_keeps (row.Move op) o s inside second odd = moves_keep op o s inside second odd
 row_keeps (row.InOut r) o s inside second odd = unit_keeps r o.p s
+row_keeps (row.Branch b code) o s inside second odd = branch_row_keeps b (operands_of_branch o code) s inside
 row_keeps row.Nop o s inside second odd = λ a out. refl
 row_keeps row.H o s inside second odd = λ a out. refl

@@ -13,8 +13,6 @@ use Rattle.addr_indirect.specs.Reading.{read_at, decimal_at}
 use Rattle.addr_indirect.specs.Operand.{number}
 use Rattle.addr_indirect.specs.Operands.{p_operand, q_operand, immediate_q}
 use Rattle.addr_indirect.specs.Fetch.{fetch}
-use Rattle.branch_ops.specs.declared.BranchOp.{BranchOp}
-use Rattle.branch_ops.specs.Carried.{branch_in}
 use Rattle.cpu_step.specs.declared.rows.Row.{Row}
 use Rattle.cpu_step.specs.declared.rows.Row.TheVariants as row
 use Rattle.cpu_step.specs.declared.rows.InOutRow.TheVariants as io
@@ -26,7 +24,6 @@ use Rattle.cpu_step.specs.declared.machine.Mode.TheVariants.{Stopped}
 use Rattle.cpu_step.specs.declared.checks.CheckPart.{CheckPart}
 use Rattle.cpu_step.specs.declared.checks.CheckPart.TheVariants as part
 use Rattle.cpu_step.specs.Rows.{instruction_row, uses}
-use Rattle.cpu_step.specs.Known.{branch_uses}
 
 -- a cell that was read is passed over, and one that can't be read is what was sought
 abbrev pub unread_or : ℕ → Result Digit Stop → ℕ → ℕ
@@ -131,41 +128,36 @@ abbrev pub over_nine_in_control : List ℕ → ℕ → Option ℕ
 over_nine_in_control core p = first_up is_over_nine core p (min 14 (length core - p))
 
 -- the cell over 9 at which a row stops: of a sum or a comparison, unless it's one of the add table, and of a row of the disk
-abbrev pub cell_over_nine : Option Row → List ℕ → Operands → Option ℕ
-cell_over_nine (Some (row.Sum kind second)) core o = over_nine_in_step core o.p o.q
-cell_over_nine (Some (row.Compare second)) core o = over_nine_in_step core o.p o.q
-cell_over_nine (Some (row.InOut (io.Disk r))) core o = over_nine_in_control core o.p
+abbrev pub cell_over_nine : Row → List ℕ → Operands → Option ℕ
+cell_over_nine (row.Sum kind second) core o = over_nine_in_step core o.p o.q
+cell_over_nine (row.Compare second) core o = over_nine_in_step core o.p o.q
+cell_over_nine (row.InOut (io.Disk r)) core o = over_nine_in_control core o.p
 cell_over_nine r core o = None
 
--- the cell that a check of an action is about, where that can be told; a branch has no row
-abbrev pub action_cell : Stop → Option Row → List ℕ → Operands → Option ℕ
+-- the cell that a check of an action is about, where that can be told
+abbrev pub action_cell : Stop → Row → List ℕ → Operands → Option ℕ
 action_cell (Parity a) r core o = Some a
 action_cell (Value a) r core o = Some a
 action_cell BadDigit r core o = cell_over_nine r core o
 action_cell why r core o = None
 
 -- the action over operands, or the part that has none
-abbrev pub action_or_part : Stop → Uses → Option Row → List ℕ → Result Operands CheckPart → CheckPart
-action_or_part why u r core (Ok o) = part.Action o.p (q_used u o.q) (action_cell why r core o)
-action_or_part why u r core (Err p) = p
+abbrev pub action_or_part : Stop → Row → List ℕ → Result Operands CheckPart → CheckPart
+action_or_part why r core (Ok o) = part.Action o.p (q_used (uses r) o.q) (action_cell why r core o)
+action_or_part why r core (Err p) = p
 
--- the part of an instruction that was fetched, uses these operands and has this row
-abbrev pub worked_part : Stop → Uses → Option Row → List ℕ → ℕ → CheckPart
-worked_part why u r core ir = action_or_part why u r core (operands_or_part u core ir)
+-- the part of an instruction that was fetched and has this row
+abbrev pub worked_part : Stop → Row → List ℕ → ℕ → CheckPart
+worked_part why r core ir = action_or_part why r core (operands_or_part (uses r) core ir)
 
--- the same by its row: where there is none, its digits are no operation's
-abbrev pub row_part : Stop → Result Row Stop → List ℕ → ℕ → CheckPart
-row_part why (Ok r) core ir = worked_part why (uses r) (Some r) core ir
-row_part why (Err no_row) core ir = part.Instruction ir
-
--- the same by the branch that it is, if it's one
-abbrev pub fetched_part : Stop → Option BranchOp → Instr → List ℕ → ℕ → CheckPart
-fetched_part why (Some b) i core ir = worked_part why (branch_uses b) None core ir
-fetched_part why None i core ir = row_part why (instruction_row i) core ir
+-- the same by the row that was found: where there is none, its digits are no operation's
+abbrev pub fetched_part : Stop → Result Row Stop → List ℕ → ℕ → CheckPart
+fetched_part why (Ok r) core ir = worked_part why r core ir
+fetched_part why (Err no_row) core ir = part.Instruction ir
 
 -- the part of the instruction at ir, fetched or not
 abbrev pub part_of : Stop → Result Instr Stop → List ℕ → ℕ → CheckPart
-part_of why (Ok i) core ir = fetched_part why (branch_in i) i core ir
+part_of why (Ok i) core ir = fetched_part why (instruction_row i) core ir
 part_of why (Err unfetched) core ir = part.Instruction (unfetched_cell core ir)
 
 -- a stop by a check switch, which comes behind a whole instruction

@@ -1,20 +1,14 @@
 -- What the twelve cells of an instruction come to, in whatever core and at whatever address they stand.
-use Rattle.std.specs.Prelude.{ℕ, ◌≡◌, ◌+◌, ◌*◌, ◌/◌, ◌%◌, ◌^◌, ◌<◌, ◌≤◌, ⊤, false, List, [], ◌∷◌, length, slice_index, Some, None, Ok}
+use Rattle.std.specs.Prelude.{ℕ, ◌≡◌, ◌+◌, ◌*◌, ◌/◌, ◌%◌, ◌^◌, ◌<◌, ◌≤◌, ⊤, false, List, [], ◌∷◌, length, slice_index, Result, Ok, Err}
 use Rattle.digit_core.specs.declared.Digit.{Digit}
 use Rattle.digit_core.specs.{digit_of_cell, six, is_bad, size}
 use Rattle.addr_indirect.specs.declared.Instr.{Instr}
-use Rattle.addr_indirect.specs.{fetch, p_operand}
-use Rattle.branch_ops.specs.declared.BranchOp.{BranchOp}
+use Rattle.addr_indirect.specs.declared.Stop.{Stop}
+use Rattle.addr_indirect.specs.{fetch}
 use Rattle.branch_ops.specs.declared.BranchOp.TheVariants.{B}
-use Rattle.branch_ops.specs.declared.rows.BranchOperands.{BranchOperands}
-use Rattle.branch_ops.specs.declared.rows.BranchUses.{BranchUses}
-use Rattle.branch_ops.specs.declared.rows.BranchUses.TheVariants as by
-use Rattle.branch_ops.specs.Branch.{tested_code}
-use Rattle.branch_ops.specs.Carried.{branch_in}
-use Rattle.branch_ops.specs.Operands as branches
 use Rattle.cpu_step.specs.declared.rows.Row.{Row}
-use Rattle.cpu_step.specs.declared.rows.Uses.{Uses}
-use Rattle.cpu_step.specs.declared.rows.Uses.TheVariants.{Both, OddBoth, Immediate, First, OddFirst, Neither}
+use Rattle.cpu_step.specs.declared.rows.Row.TheVariants as row
+use Rattle.cpu_step.specs.declared.rows.Uses.TheVariants.{OddBoth, OddFirst}
 use Rattle.cpu_step.specs.declared.rows.Operands.{Operands}
 use Rattle.cpu_step.specs.declared.fields.Fields.{Fields}
 use Rattle.cpu_step.specs.declared.memo.Known.{Known}
@@ -56,49 +50,34 @@ pub record AreSettled (n : ℕ) (f : Fields) : Type 0 where
   pub p_below : f.p < n
   pub q_below : (ir : ℕ) → ir + 12 ≤ n → (operands_at ir f).q < n
 
--- a row that is no branch, and its fields
+-- a row, and its fields
 pub record IsRow (i : Instr) (row : Row) (f : Fields) : Type 0 where
-  pub no_branch : branch_in i ≡ None
   pub row_is : instruction_row i ≡ Ok row
   pub fields_are : f ≡ fields_used (uses row) i
 
--- what a branch uses, as rows use it
-abbrev pub uses_as : BranchUses → Uses
-uses_as by.Both = Both
-uses_as by.Immediate = Immediate
-uses_as by.Indicator = First
-uses_as by.First = First
-uses_as by.Neither = Neither
+-- the row and the fields of an instruction, or the stop where it has no row
+abbrev pub Decodes : Instr → Result (Row × Fields) Stop → Type 0
+Decodes i (Ok found) = IsRow i found.0 found.1
+Decodes i (Err why) = instruction_row i ≡ Err why
 
--- what the instruction's branch uses
-abbrev pub branch_uses : BranchOp → Uses
-branch_uses op = uses_as (branches.operands_used op)
-
--- a branch, its fields, and the indicator that it tests
-pub record IsBranch (i : Instr) (op : BranchOp) (f : Fields) (code : ℕ) : Type 0 where
-  pub is : branch_in i ≡ Some op
-  pub fields_are : f ≡ fields_used (branch_uses op) i
-  pub code_is : code ≡ tested_code i
-
--- B, and its operand
+-- B, whatever Q8 Q9 name, and its operand
 pub record IsB (i : Instr) (n p : ℕ) : Type 0 where
-  pub is : branch_in i ≡ Some B
-  pub settled : AreSettled n (fields_used First i)
-  pub p_is : p ≡ (fields_used First i).p
+  pub code : ℕ
+  pub f : Fields
+  pub is : IsRow i (row.Branch B code) f
+  pub settled : AreSettled n f
+  pub p_is : p ≡ f.p
 
 -- what an instruction comes to by its digits, in a core of n cells
 abbrev pub IsKnown : Instr → ℕ → Known → Type 0
 IsKnown i n (known.Goes p) = IsB i n p
 IsKnown i n (known.Row row f) = IsRow i row f × AreSettled n f
-IsKnown i n (known.Branch op f code) = IsBranch i op f code × AreSettled n f
-IsKnown i n (known.ChainedRow row f) = IsRow i row f
-IsKnown i n (known.ChainedBranch op f code) = IsBranch i op f code
+IsKnown i n (known.Chained row f) = IsRow i row f
 IsKnown i n known.Other = ⊤
 
--- the instruction at ir is one of a row that is no branch, over these operands
+-- the instruction at ir is of this row, over these operands
 pub record ComesToRow (core : List ℕ) (ir low high : ℕ) (row : Row) (o : Operands) : Type 0 where
   pub fetched : fetch core ir ≡ Ok (instr_at ir low high)
-  pub no_branch : branch_in (instr_at ir low high) ≡ None
   pub row_is : instruction_row (instr_at ir low high) ≡ Ok row
   pub operands_are : operands (uses row) core ir ≡ Ok o
   pub inside : ir + 12 ≤ length core
@@ -107,52 +86,30 @@ pub record ComesToRow (core : List ℕ) (ir low high : ℕ) (row : Row) (o : Ope
   pub odd : uses row ≡ OddFirst → o.p % 2 ≡ 1
   pub odd_pairs : uses row ≡ OddBoth → o.p % 2 ≡ 1
 
--- the instruction at ir is B, to p
-pub record ComesToB (core : List ℕ) (ir low high p : ℕ) : Type 0 where
-  pub fetched : fetch core ir ≡ Ok (instr_at ir low high)
-  pub is : branch_in (instr_at ir low high) ≡ Some B
-  pub p_is : p_operand core ir ≡ Ok p
+-- the indicator that a branch's row names
+abbrev pub code_in : Result Row Stop → ℕ
+code_in (Ok (row.Branch b code)) = code
+code_in r = 0
 
--- those of a branch, with the indicator that it tests
-abbrev pub operands_of_branch : Operands → ℕ → BranchOperands
-operands_of_branch o code = record { p = o.p; q = o.q; code = code }
+-- it is B, to p
+abbrev pub ComesToB : List ℕ → ℕ → ℕ → ℕ → ℕ → Type 0
+ComesToB core ir low high p =
+    ComesToRow core ir low high (row.Branch B (code_in (instruction_row (instr_at ir low high)))) (record { p = p; q = 0 })
 
--- the instruction at ir is this branch, over these operands
-pub record ComesToBranch (core : List ℕ) (ir low high : ℕ) (op : BranchOp) (o : BranchOperands) : Type 0 where
+-- it is of this row, over fields whose operands aren't worked out
+pub record ComesToChained (core : List ℕ) (ir low high : ℕ) (row : Row) (f : Fields) : Type 0 where
   pub fetched : fetch core ir ≡ Ok (instr_at ir low high)
-  pub is : branch_in (instr_at ir low high) ≡ Some op
-  pub operands_are : branches.IsKnown op core ir (instr_at ir low high) o
-  pub inside : ir + 12 ≤ length core
-  pub p_inside : o.p < length core
-  pub q_inside : o.q < length core
-
--- the same over fields whose operands aren't worked out
-pub record ComesToChainedRow (core : List ℕ) (ir low high : ℕ) (row : Row) (f : Fields) : Type 0 where
-  pub fetched : fetch core ir ≡ Ok (instr_at ir low high)
-  pub no_branch : branch_in (instr_at ir low high) ≡ None
   pub row_is : instruction_row (instr_at ir low high) ≡ Ok row
   pub operands_are : HoldOperands (uses row) core ir f
-  pub inside : ir + 12 ≤ length core
-
-pub record ComesToChainedBranch (core : List ℕ) (ir low high : ℕ) (op : BranchOp) (f : Fields) (code : ℕ)
-    : Type 0 where
-  pub fetched : fetch core ir ≡ Ok (instr_at ir low high)
-  pub is : branch_in (instr_at ir low high) ≡ Some op
-  pub operands_are : HoldOperands (branch_uses op) core ir f
-  pub code_is : code ≡ tested_code (instr_at ir low high)
   pub inside : ir + 12 ≤ length core
 
 -- what the instruction at ir, which these two words hold, comes to; of any other nothing is said
 pub record ComesTo (core : List ℕ) (ir low high : ℕ) (k : Known) : Type 0 where
   pub to_b : (p : ℕ) → k ≡ known.Goes p → ComesToB core ir low high p
-  pub to_branch : (op : BranchOp) (f : Fields) (code : ℕ) → k ≡ known.Branch op f code
-      → ComesToBranch core ir low high op (operands_of_branch (operands_at ir f) code)
   pub to_row : (row : Row) (f : Fields) → k ≡ known.Row row f
       → ComesToRow core ir low high row (operands_at ir f)
-  pub to_chained_branch : (op : BranchOp) (f : Fields) (code : ℕ) → k ≡ known.ChainedBranch op f code
-      → ComesToChainedBranch core ir low high op f code
-  pub to_chained_row : (row : Row) (f : Fields) → k ≡ known.ChainedRow row f
-      → ComesToChainedRow core ir low high row f
+  pub to_chained : (row : Row) (f : Fields) → k ≡ known.Chained row f
+      → ComesToChained core ir low high row f
 
 -- a fact on the two words alone: so nothing that is stored in core makes it false
 abbrev pub AreKnown : ℕ → ℕ → ℕ → Known → Type 0

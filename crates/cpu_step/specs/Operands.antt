@@ -1,4 +1,4 @@
--- The operands of an instruction that is no branch.
+-- The operands of an instruction.
 -- Source: CPU manual, instruction descriptions; the order of the checks is this project's own.
 use Rattle.std.specs.Prelude.{ℕ, ◌%◌, ◌==◌, List, if◌then◌else◌, Result, Ok, Err}
 use Rattle.addr_indirect.specs.declared.Stop.{Stop}

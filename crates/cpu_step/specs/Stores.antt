@@ -1,13 +1,12 @@
 -- Which cells a step may store.
-use Rattle.std.specs.Prelude.{ℕ, ◌≡◌, ◌≢◌, ◌<◌, ◌≤◌, ◌⊎◌, ◌-◌, ◌==◌, true, if◌then◌else◌, List, length, slice_index, ⊤, Option, Some, None, Result, Ok, Err}
+use Rattle.std.specs.Prelude.{ℕ, ◌≡◌, ◌≢◌, ◌<◌, ◌≤◌, ◌⊎◌, ◌-◌, ◌==◌, true, if◌then◌else◌, List, length, slice_index, ⊤, Result, Ok, Err}
 use Rattle.digit_core.specs.Cell.{has_flag}
 use Rattle.digit_core.specs.Search.{has_mark}
 use Rattle.addr_indirect.specs.declared.Stop.{Stop}
 use Rattle.addr_indirect.specs.declared.Instr.{Instr}
-use Rattle.addr_indirect.specs.{fetch, p_operand}
+use Rattle.addr_indirect.specs.{fetch}
 use Rattle.branch_ops.specs.declared.BranchOp.{BranchOp}
 use Rattle.branch_ops.specs.declared.BranchOp.TheVariants as op
-use Rattle.branch_ops.specs.Carried.{branch_in}
 use Rattle.cpu_step.specs.declared.rows.Row.{Row}
 use Rattle.cpu_step.specs.declared.rows.Row.TheVariants as row
 use Rattle.cpu_step.specs.declared.rows.MoveOp.{MoveOp}
@@ -109,15 +108,6 @@ move_stores moves.Flag o = Anywhere
 move_stores moves.Strip o = Down o.q
 move_stores moves.Fill o = Down o.p
 
--- what each row may store over its operands
-abbrev pub row_stores : Row → Operands → Stores
-row_stores (row.Sum kind second) o = Down o.p
-row_stores (row.Compare second) o = Nothing
-row_stores (row.Move op) o = move_stores op o
-row_stores (row.InOut r) o = unit_stores r
-row_stores row.Nop o = Nothing
-row_stores row.H o = Nothing
-
 -- what BT and BTM may store: the field whose units are at P-1
 abbrev pub transmit_stores : ℕ → Stores
 transmit_stores p = if p == 0 then Nothing else Down (p - 1)
@@ -135,16 +125,25 @@ branch_stores op.Bi p = Nothing
 branch_stores op.Bni p = Nothing
 branch_stores op.B p = Nothing
 
+-- what each row may store over its operands
+abbrev pub row_stores : Row → Operands → Stores
+row_stores (row.Sum kind second) o = Down o.p
+row_stores (row.Compare second) o = Nothing
+row_stores (row.Move op) o = move_stores op o
+row_stores (row.InOut r) o = unit_stores r
+row_stores (row.Branch b code) o = branch_stores b o.p
+row_stores row.Nop o = Nothing
+row_stores row.H o = Nothing
+
 -- what a reading stops stores nothing
 abbrev pub or_nothing : {A : Type 0} → Result A Stop → (A → Stores) → Stores
 or_nothing (Ok x) f = f x
 or_nothing (Err why) f = Nothing
 
--- what the instruction at ir may store, once it's fetched: a branch over P, another over the operands of its row
-abbrev pub fetched_stores : Option BranchOp → Instr → List ℕ → ℕ → Stores
-fetched_stores (Some b) i core ir = or_nothing (p_operand core ir) (λ p. branch_stores b p)
-fetched_stores None i core ir = or_nothing (instruction_row i) (λ r. or_nothing (operands (uses r) core ir) (λ o. row_stores r o))
+-- what the instruction at ir may store, once it's fetched, over the operands of its row
+abbrev pub fetched_stores : Instr → List ℕ → ℕ → Stores
+fetched_stores i core ir = or_nothing (instruction_row i) (λ r. or_nothing (operands (uses r) core ir) (λ o. row_stores r o))
 
 -- what the instruction at ir may store
 abbrev pub stores_at : List ℕ → ℕ → Stores
-stores_at core ir = or_nothing (fetch core ir) (λ i. fetched_stores (branch_in i) i core ir)
+stores_at core ir = or_nothing (fetch core ir) (λ i. fetched_stores i core ir)

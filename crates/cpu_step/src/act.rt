@@ -1,4 +1,4 @@
-// What the rows that are no branches do.
+// What the rows do.
 ghost use Rattle.std.specs.Prelude.{◌≡◌, ◌<◌, ◌≤◌, ◌+◌, ◌%◌};
 ghost use Rattle.digit_core.specs.Size.{size};
 ghost use Rattle.traces.specs.Stored.{Did};
@@ -7,12 +7,14 @@ ghost use Rattle.cpu_step.specs.declared.rows.Uses.{Uses};
 ghost use Rattle.cpu_step.specs.Act.{move_of};
 ghost use Rattle.cpu_step.specs.Fields.{HoldOperands};
 
-use crate::ends::{card_outcome, core_outcome, disk_outcome, keyboard_outcome, typing_outcome};
+use crate::ends::{
+    branch_outcome, card_outcome, core_outcome, disk_outcome, keyboard_outcome, typing_outcome,
+};
 use crate::fields::Fields;
 use crate::machine::{Machine, Outcome};
 use crate::rows::{CardRow, ConsoleRow, DiskRow, InOutRow, MoveOp, Operands, Row};
 use addr_indirect::Stop;
-use branch_ops::Regs;
+use branch_ops::{BranchOp, BranchOperands, Regs, branch_known};
 use digit_core::Core;
 use feature_ops::{fill, move_flag, strip};
 use field_moves::{cf, sf, td, tf, tr};
@@ -23,7 +25,7 @@ impl<const M: u32> Machine<M> {
     ghost use Rattle.branch_ops.specs.Registers.{on_at};
     ghost use Rattle.cpu_step.specs.Act.{act, on_console, on_cards, on_disk};
     ghost use Rattle.cpu_step.specs.Rows.{uses, uses_of, console_uses, card_uses};
-    ghost use Rattle.cpu_step.specs.Machine.{Acts, RowActs, UnitActs};
+    ghost use Rattle.cpu_step.specs.Machine.{Acts, BranchActs, RowActs, UnitActs};
 
     // Works the operands of a row out, and does its action.
     #[inline(always)]
@@ -59,7 +61,21 @@ impl<const M: u32> Machine<M> {
             Row::Nop => Outcome::Goes { regs },
             Row::H => Outcome::Halts { regs },
             Row::InOut(row) => self.in_out(row, o.p, regs, host),
+            Row::Branch { op, code } => self.branch_by(op, o.tested(code)),
         }
+    }
+
+    // Does what a branch does over its operands.
+    #[inline(always)]
+    pub(crate) fn branch_by(&mut self, op: BranchOp, o: BranchOperands) -> Outcome
+        requires p { o.p < size M }
+        requires q { o.q < size M }
+        requires next { self.old.regs.ir + 12 ≤ size M }
+        ensures { BranchActs M op o self.old self.new result }
+    {
+        let mut regs = self.regs;
+        let answer = branch_known(op, o, &mut self.core, &mut regs, &mut self.panel);
+        branch_outcome(answer, regs)
     }
 
     // Does the action of a row of the input and output units.

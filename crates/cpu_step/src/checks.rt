@@ -3,11 +3,10 @@ ghost use Rattle.std.specs.Prelude.{◌≡◌, ◌+◌, ◌<◌, ◌≤◌, leng
 ghost use Rattle.digit_core.specs.Size.{size};
 ghost use Rattle.digit_core.specs.Search.{first_up};
 ghost use Rattle.addr_indirect.specs.Operand.{number};
-ghost use Rattle.branch_ops.specs.Carried.{branch_in};
+ghost use Rattle.cpu_step.specs.Rows.{instruction_row};
 ghost use Rattle.cpu_step.specs.Checks.{action_cell, cell_over_nine, chain_end, check_part, fetched_part, field_after, field_length, first_unread, is_over_nine, nearer, operands_or_part, over_nine_down, over_nine_in_control, over_nine_in_step, p_or_part, p_part, part_of, q_or_part, q_part, q_used, unfetched_cell, wants_odd, worked_part};
 ghost use Rattle.addr_indirect.specs.Fetch.{fetch};
 
-use crate::memo::{branch_in, branch_uses};
 use crate::rows::{InOutRow, Operands, Row, Uses, row_of};
 use addr_indirect::{
     Instr, LOWEST_UNITS, Stop, decimal_at, fetch, immediate_q, p_operand, q_operand, read_at,
@@ -110,28 +109,20 @@ fn first_unread<const M: u32>(core: &Core<M>, a: u32) -> u32
 fn fetched_part<const M: u32>(core: &Core<M>, why: Stop, ir: u32, i: &Instr) -> CheckPart
     requires inside { ir + 12 ≤ size M }
     requires twelve { length i.now.cells ≡ 12 }
-    ensures { result ≡ fetched_part why (branch_in i.now) i.now core.now ir }
+    ensures { result ≡ fetched_part why (instruction_row i.now) core.now ir }
 {
-    match branch_in(i) {
-        Some(op) => worked_part(core, why, ir, branch_uses(op), None),
-        None => match row_of(i) {
-            Ok(row) => worked_part(core, why, ir, row.uses(), Some(row)),
-            Err(_) => CheckPart::Instruction { cell: ir },
-        },
+    match row_of(i) {
+        Ok(row) => worked_part(core, why, ir, row),
+        Err(_) => CheckPart::Instruction { cell: ir },
     }
 }
 
-// The part of an instruction that was fetched, uses these operands and has this row; a branch has none.
-fn worked_part<const M: u32>(
-    core: &Core<M>,
-    why: Stop,
-    ir: u32,
-    uses: Uses,
-    row: Option<Row>,
-) -> CheckPart
+// The part of an instruction that was fetched and has this row.
+fn worked_part<const M: u32>(core: &Core<M>, why: Stop, ir: u32, row: Row) -> CheckPart
     requires { ir + 12 ≤ size M }
-    ensures { result ≡ worked_part why uses row core.now ir }
+    ensures { result ≡ worked_part why row core.now ir }
 {
+    let uses = row.uses();
     match operands_or_part(core, ir, uses) {
         Ok(o) => CheckPart::Action {
             p: o.p,
@@ -291,12 +282,7 @@ pub(crate) fn five_digits<const M: u32>(core: &Core<M>, u: u32) -> Result<u32, S
 }
 
 // The cell that a check of an action is about, where that can be told.
-fn action_cell<const M: u32>(
-    core: &Core<M>,
-    why: Stop,
-    row: Option<Row>,
-    o: Operands,
-) -> Option<u32>
+fn action_cell<const M: u32>(core: &Core<M>, why: Stop, row: Row, o: Operands) -> Option<u32>
     requires p { o.p < size M }
     requires q { o.q < size M }
     ensures { result ≡ action_cell why row core.now o }
@@ -309,14 +295,14 @@ fn action_cell<const M: u32>(
 }
 
 // The cell over 9 at which a row stops, where that can be told.
-fn cell_over_nine<const M: u32>(core: &Core<M>, row: Option<Row>, o: Operands) -> Option<u32>
+fn cell_over_nine<const M: u32>(core: &Core<M>, row: Row, o: Operands) -> Option<u32>
     requires p { o.p < size M }
     requires q { o.q < size M }
     ensures { result ≡ cell_over_nine row core.now o }
 {
     match row {
-        Some(Row::Sum(_, _)) | Some(Row::Compare(_)) => over_nine_in_step(core, o.p, o.q),
-        Some(Row::InOut(InOutRow::Disk(_))) => over_nine_in_control(core, o.p),
+        Row::Sum(_, _) | Row::Compare(_) => over_nine_in_step(core, o.p, o.q),
+        Row::InOut(InOutRow::Disk(_)) => over_nine_in_control(core, o.p),
         _ => None,
     }
 }

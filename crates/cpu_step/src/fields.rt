@@ -3,11 +3,12 @@ ghost use Rattle.std.specs.Prelude.{◌≡◌, ◌+◌, ◌<◌, ◌≤◌, ◌%
 ghost use Rattle.digit_core.specs.Size.{size};
 ghost use Rattle.digit_core.specs.declared.TheConstants.{MOST_POSITIONS};
 ghost use Rattle.cpu_step.specs.Fields.{decimal_part, field_from, fields_used, is_chained, number_in, operand_from, operands_at, operands_from};
+ghost use Rattle.cpu_step.specs.Known.{Decodes};
 ghost use Rattle.cpu_step.specs.Operands.{operands};
 ghost use Rattle.addr_indirect.specs.Fetch.{fetch};
 
 use crate::further::FurtherFields;
-use crate::rows::{Operands, Uses};
+use crate::rows::{Operands, Row, Uses, row_of};
 use addr_indirect::{Instr, LOWEST_UNITS, Stop, further, immediate_q};
 use digit_core::Core;
 
@@ -35,9 +36,21 @@ pub(crate) struct Fields {
     odd: bool,
 }
 
+// An instruction's row and its fields. All that an instruction does, and all that is said of it, is found by this: in a step, in what is
+// kept of it, and in what it may store. Stops: where it has no row.
+pub(crate) fn decoded_row(i: &Instr) -> Result<(Row, Fields), Stop>
+    requires { length i.now.cells ≡ 12 }
+    ensures { Decodes i.now result }
+{
+    match row_of(i) {
+        Ok(row) => Ok((row, Fields::of(row.uses(), i))),
+        Err(stop) => Err(stop),
+    }
+}
+
 impl Fields {
     // Those of an instruction that uses these operands.
-    pub(crate) fn of(uses: Uses, i: &Instr) -> Self
+    fn of(uses: Uses, i: &Instr) -> Self
         requires { length i.now.cells ≡ 12 }
         ensures { result ≡ fields_used uses i.now }
     {

@@ -1,17 +1,15 @@
 // What instructions came to before.
-ghost use Rattle.std.specs.Prelude.{ℕ, ◌≡◌, ◌+◌, ◌≤◌, ◌<◌, ◌%◌, ◌^◌, length, IfOk, IfSome, None, Some, true};
+ghost use Rattle.std.specs.Prelude.{ℕ, ◌≡◌, ◌+◌, ◌≤◌, ◌<◌, ◌%◌, ◌^◌, length, IfOk, IfSome, false, true};
 ghost use Rattle.digit_core.specs.Size.{IsSize, size};
 ghost use Rattle.digit_core.specs.Packed.{six, ten_across};
-ghost use Rattle.branch_ops.specs.Branch.{tested_code};
-ghost use Rattle.branch_ops.specs.Carried.{branch_in};
-ghost use Rattle.cpu_step.specs.Fields.{operands_from};
-ghost use Rattle.cpu_step.specs.Known.{AreGood, AreKnown, IsKnown, IsPlace, branch_uses, instr_at, two_from};
+ghost use Rattle.cpu_step.specs.Fields.{is_chained, operands_from};
+ghost use Rattle.cpu_step.specs.Known.{AreGood, AreKnown, IsKnown, IsPlace, IsRow, instr_at, two_from};
 
-use crate::fields::Fields;
+use crate::fields::{Fields, decoded_row};
 use crate::further::FurtherFields;
-use crate::rows::{Operands, Row, Uses, row_of};
+use crate::rows::{Operands, Row};
 use addr_indirect::{Instr, Stop};
-use branch_ops::{BranchOp, BranchUses, branch_of};
+use branch_ops::BranchOp;
 use digit_core::{Core, are_good, are_good_at, digit_in, ones_below, ten_across};
 use std::alloc::{AllocError, Global};
 
@@ -19,30 +17,11 @@ use std::alloc::{AllocError, Global};
 #[derive(Clone, Copy)]
 pub(crate) enum Known {
     // B, to P.
-    Goes {
-        p: u32,
-    },
-    // A row that is no branch, and its fields.
-    Row {
-        row: Row,
-        fields: Fields,
-    },
-    // Another branch, its fields, and the indicator that it tests.
-    Branch {
-        op: BranchOp,
-        fields: Fields,
-        code: u8,
-    },
-    // The same where a chain begins at a field. The branch may be B.
-    ChainedRow {
-        row: Row,
-        fields: Fields,
-    },
-    ChainedBranch {
-        op: BranchOp,
-        fields: Fields,
-        code: u8,
-    },
+    Goes { p: u32 },
+    // Another row, and its fields.
+    Row { row: Row, fields: Fields },
+    // A row at whose fields a chain begins. It may be that of B.
+    Chained { row: Row, fields: Fields },
     // What has a bad cell, no row, or an operand that won't do.
     Other,
 }
@@ -246,81 +225,34 @@ fn known_by<const M: u32>(i: &Instr, core: &Core<M>, ir: u32) -> Known
     requires inside { ir + 12 ≤ size M }
     ensures { IsKnown i.now (size M) result }
 {
-    match branch_in(i) {
-        Some(op) => known_branch(op, i, core, ir),
-        None => known_row(i, core, ir),
-    }
-}
-
-// What a branch comes to.
-fn known_branch<const M: u32>(op: BranchOp, i: &Instr, core: &Core<M>, ir: u32) -> Known
-    requires twelve { length i.now.cells ≡ 12 }
-    requires branch { branch_in i.now ≡ Some op }
-    requires inside { ir + 12 ≤ size M }
-    ensures { IsKnown i.now (size M) result }
-{
-    core.size_law();
-    let code = tested_code(i);
-    let fields = Fields::of(branch_uses(op), i);
-    if fields.is_chained() {
-        Known::ChainedBranch { op, fields, code }
-    } else {
-        match fields.operands(core, ir) {
-            Ok(o) => match op {
-                BranchOp::B => Known::Goes { p: o.p },
-                _ => Known::Branch { op, fields, code },
-            },
-            Err(_) => Known::Other,
-        }
-    }
-}
-
-// The branch that an instruction is.
-pub(crate) fn branch_in(i: &Instr) -> Option<BranchOp>
-    ensures { result ≡ branch_in i.now }
-{
-    branch_of(i.opcode()?)
-}
-
-// The operands that a branch uses.
-pub(crate) fn branch_uses(op: BranchOp) -> Uses
-    ensures { result ≡ branch_uses op }
-{
-    match op.uses() {
-        BranchUses::Both => Uses::Both,
-        BranchUses::Immediate => Uses::Immediate,
-        BranchUses::Indicator | BranchUses::First => Uses::First,
-        BranchUses::Neither => Uses::Neither,
-    }
-}
-
-// The indicator that Q8 Q9 name, 0 where one of them is over 9.
-pub(crate) fn tested_code(i: &Instr) -> u8
-    ensures { result ≡ tested_code i.now }
-{
-    i.q8_q9().unwrap_or(0)
-}
-
-// What an instruction that is no branch comes to.
-fn known_row<const M: u32>(i: &Instr, core: &Core<M>, ir: u32) -> Known
-    requires twelve { length i.now.cells ≡ 12 }
-    requires no_branch { branch_in i.now ≡ None }
-    requires inside { ir + 12 ≤ size M }
-    ensures { IsKnown i.now (size M) result }
-{
-    core.size_law();
-    match row_of(i) {
-        Ok(row) => {
-            let fields = Fields::of(row.uses(), i);
+    match decoded_row(i) {
+        Ok((row, fields)) => {
             if fields.is_chained() {
-                Known::ChainedRow { row, fields }
+                Known::Chained { row, fields }
             } else {
-                match fields.operands(core, ir) {
-                    Ok(_) => Known::Row { row, fields },
-                    Err(_) => Known::Other,
-                }
+                known_row(row, fields, i, core, ir)
             }
         }
+        Err(_) => Known::Other,
+    }
+}
+
+// What a row comes to at whose fields no chain begins.
+fn known_row<const M: u32>(row: Row, fields: Fields, i: &Instr, core: &Core<M>, ir: u32) -> Known
+    requires row { IsRow i.now row fields }
+    requires plain { is_chained fields ≡ false }
+    requires inside { ir + 12 ≤ size M }
+    ensures { IsKnown i.now (size M) result }
+{
+    core.size_law();
+    match fields.operands(core, ir) {
+        Ok(o) => match row {
+            Row::Branch { op, .. } => match op {
+                BranchOp::B => Known::Goes { p: o.p },
+                _ => Known::Row { row, fields },
+            },
+            _ => Known::Row { row, fields },
+        },
         Err(_) => Known::Other,
     }
 }

@@ -1,17 +1,15 @@
 // One step: the instruction at IR.
 ghost use Rattle.std.specs.Prelude.{◌≡◌, ◌<◌, ◌≤◌, ◌+◌, ◌%◌};
 ghost use Rattle.digit_core.specs.Size.{size};
-ghost use Rattle.cpu_step.specs.Fields.{HoldOperands};
-ghost use Rattle.cpu_step.specs.Known.{branch_uses};
 
 use crate::act::make_move;
-use crate::ends::{branch_outcome, check_stop, core_outcome, show_parity};
-use crate::fields::Fields;
+use crate::ends::{check_stop, core_outcome, show_parity};
+use crate::fields::decoded_row;
 use crate::machine::{Machine, Mode, Outcome, Turned};
-use crate::memo::{Known, branch_in, branch_uses, tested_code};
-use crate::rows::{InOutRow, Operands, Row, Uses, row_of};
+use crate::memo::Known;
+use crate::rows::{InOutRow, Operands, Row, Uses};
 use addr_indirect::{Stop, fetch};
-use branch_ops::{BranchOp, BranchOperands, Regs, branch_known};
+use branch_ops::{BranchOp, BranchOperands, Regs};
 use outside_io::Host;
 use table_arith::{add, compare};
 
@@ -19,7 +17,7 @@ impl<const M: u32> Machine<M> {
     ghost use Rattle.cpu_step.specs.Step.{instruction};
     ghost use Rattle.branch_ops.specs.Registers.{on_at};
     ghost use Rattle.cpu_step.specs.Rows.{uses, uses_of};
-    ghost use Rattle.cpu_step.specs.Machine.{Acts, Steps, Settles, RowSettles, UnitSettles, BranchSettles, InstructionSettles, BranchActs, KnownBranchActs, stopped_machine};
+    ghost use Rattle.cpu_step.specs.Machine.{Acts, Steps, Settles, RowSettles, UnitSettles, BranchSettles, InstructionSettles, stopped_machine};
 
     /// One step: the instruction at IR.
     ///
@@ -42,12 +40,7 @@ impl<const M: u32> Machine<M> {
                 },
             }),
             Known::Row { row, fields } => self.row_step(row, fields.at(ir), host),
-            Known::Branch { op, fields, code } => {
-                self.branch_step(op, fields.at(ir).tested(code))
-            }
-            Known::ChainedRow { .. } | Known::ChainedBranch { .. } | Known::Other => {
-                self.chained_step(host)
-            }
+            Known::Chained { .. } | Known::Other => self.chained_step(host),
         }
     }
 
@@ -79,6 +72,7 @@ impl<const M: u32> Machine<M> {
             Row::Nop => self.settle(Outcome::Goes { regs }),
             Row::H => self.settle(Outcome::Halts { regs }),
             Row::InOut(row) => self.in_out_step(row, o.p, regs, host),
+            Row::Branch { op, code } => self.branch_step(op, o.tested(code)),
         }
     }
 
@@ -102,7 +96,7 @@ impl<const M: u32> Machine<M> {
         requires next { self.old.regs.ir + 12 ≤ size M }
         ensures { BranchSettles M op o self.old self.new result }
     {
-        let outcome = self.known_branch(op, o);
+        let outcome = self.branch_by(op, o);
         self.settle(outcome)
     }
 
@@ -178,8 +172,7 @@ impl<const M: u32> Machine<M> {
         self.core.size_law();
         let ir = self.regs.ir;
         match self.memo.look(&self.core, ir) {
-            Known::ChainedRow { row, fields } => self.act(row, fields, host),
-            Known::ChainedBranch { op, fields, code } => self.act_branch(op, fields, code),
+            Known::Chained { row, fields } => self.act(row, fields, host),
             _ => self.decoded(host),
         }
     }
@@ -193,38 +186,9 @@ impl<const M: u32> Machine<M> {
             Ok(i) => i,
             Err(stop) => return Outcome::Stops(stop),
         };
-        match branch_in(&i) {
-            Some(op) => self.act_branch(op, Fields::of(branch_uses(op), &i), tested_code(&i)),
-            None => match row_of(&i) {
-                Ok(row) => self.act(row, Fields::of(row.uses(), &i), host),
-                Err(stop) => Outcome::Stops(stop),
-            },
-        }
-    }
-
-    // Works the operands of a branch out, and carries it out over them.
-    #[inline(always)]
-    fn act_branch(&mut self, op: BranchOp, fields: Fields, code: u8) -> Outcome
-        requires inside { self.old.regs.ir + 12 ≤ size M }
-        requires operands { HoldOperands (branch_uses op) self.old.core self.old.regs.ir fields }
-        ensures { BranchActs M op code self.old self.new result }
-    {
-        match self.memo.operands(fields, &self.core, self.regs.ir) {
-            Ok(o) => self.known_branch(op, o.tested(code)),
+        match decoded_row(&i) {
+            Ok((row, fields)) => self.act(row, fields, host),
             Err(stop) => Outcome::Stops(stop),
         }
-    }
-
-    // Carries a branch out whose operands are known.
-    #[inline(always)]
-    fn known_branch(&mut self, op: BranchOp, o: BranchOperands) -> Outcome
-        requires p { o.p < size M }
-        requires q { o.q < size M }
-        requires next { self.old.regs.ir + 12 ≤ size M }
-        ensures { KnownBranchActs M op o self.old self.new result }
-    {
-        let mut regs = self.regs;
-        let answer = branch_known(op, o, &mut self.core, &mut regs, &mut self.panel);
-        branch_outcome(answer, regs)
     }
 }

@@ -1,15 +1,14 @@
 // What the next step may store.
-ghost use Rattle.std.specs.Prelude.{◌≡◌, ◌+◌, ◌≤◌, length, Some, None, Ok};
+ghost use Rattle.std.specs.Prelude.{◌≡◌, ◌+◌, ◌≤◌, length, Ok};
 ghost use Rattle.digit_core.specs.Size.{size};
 ghost use Rattle.addr_indirect.specs.Fetch.{fetch};
-ghost use Rattle.branch_ops.specs.Carried.{branch_in};
 ghost use Rattle.cpu_step.specs.Stores.{IsBelow, StepStores, branch_stores, card_stores, console_stores, fetched_stores, move_stores, row_stores, stores_at, unit_stores};
 
-use crate::fields::Fields;
+use crate::fields::decoded_row;
 use crate::machine::Machine;
-use crate::memo::{Known, branch_in};
-use crate::rows::{CardRow, ConsoleRow, InOutRow, MoveOp, Operands, Row, row_of};
-use addr_indirect::{Instr, fetch, p_operand};
+use crate::memo::Known;
+use crate::rows::{CardRow, ConsoleRow, InOutRow, MoveOp, Operands, Row};
+use addr_indirect::{Instr, fetch};
 use branch_ops::BranchOp;
 use digit_core::Core;
 
@@ -53,10 +52,7 @@ impl<const M: u32> Machine<M> {
         match self.memo.look(&self.core, ir) {
             Known::Goes { .. } => Stores::Nothing,
             Known::Row { row, fields } => row_stores(row, fields.at(ir)),
-            Known::Branch { op, fields, .. } => branch_stores(op, fields.p),
-            Known::ChainedRow { .. } | Known::ChainedBranch { .. } | Known::Other => {
-                decoded_stores(&self.core, ir)
-            }
+            Known::Chained { .. } | Known::Other => decoded_stores(&self.core, ir),
         }
     }
 }
@@ -70,43 +66,23 @@ fn decoded_stores<const M: u32>(core: &Core<M>, ir: u32) -> Stores
     ensures within { StepStores core.now ir result }
 {
     match fetch(core, ir) {
-        Ok(i) => match branch_in(&i) {
-            Some(op) => fetched_branch_stores(core, ir, &i, op),
-            None => fetched_row_stores(core, ir, &i),
-        },
+        Ok(i) => fetched_stores(core, ir, &i),
         Err(_) => Stores::Nothing,
     }
 }
 
-// The same of a branch that was fetched. One that stops at P stores nothing; BB, which has no P, stores nothing anyway.
-fn fetched_branch_stores<const M: u32>(core: &Core<M>, ir: u32, i: &Instr, op: BranchOp) -> Stores
-    requires inside { ir + 12 ≤ size M }
-    requires fetched { fetch core.now ir ≡ Ok i.now }
-    requires branch { branch_in i.now ≡ Some op }
-    ensures is { result ≡ fetched_stores (Some op) i.now core.now ir }
-    ensures below { IsBelow result (size M) }
-    ensures within { StepStores core.now ir result }
-{
-    core.size_law();
-    match p_operand(core, ir) {
-        Ok(p) => branch_stores(op, p),
-        Err(_) => Stores::Nothing,
-    }
-}
-
-// The same of an instruction that was fetched and is no branch.
-fn fetched_row_stores<const M: u32>(core: &Core<M>, ir: u32, i: &Instr) -> Stores
+// The same of an instruction that was fetched.
+fn fetched_stores<const M: u32>(core: &Core<M>, ir: u32, i: &Instr) -> Stores
     requires inside { ir + 12 ≤ size M }
     requires twelve { length i.now.cells ≡ 12 }
     requires fetched { fetch core.now ir ≡ Ok i.now }
-    requires no_branch { branch_in i.now ≡ None }
-    ensures is { result ≡ fetched_stores None i.now core.now ir }
+    ensures is { result ≡ fetched_stores i.now core.now ir }
     ensures below { IsBelow result (size M) }
     ensures within { StepStores core.now ir result }
 {
     core.size_law();
-    match row_of(i) {
-        Ok(row) => match Fields::of(row.uses(), i).operands(core, ir) {
+    match decoded_row(i) {
+        Ok((row, fields)) => match fields.operands(core, ir) {
             Ok(o) => row_stores(row, o),
             Err(_) => Stores::Nothing,
         },
@@ -114,7 +90,7 @@ fn fetched_row_stores<const M: u32>(core: &Core<M>, ir: u32, i: &Instr) -> Store
     }
 }
 
-// What a row that is no branch may store over its operands.
+// What a row may store over its operands.
 fn row_stores(row: Row, o: Operands) -> Stores
     ensures { result ≡ row_stores row o }
 {
@@ -123,6 +99,7 @@ fn row_stores(row: Row, o: Operands) -> Stores
         Row::Compare(_) | Row::Nop | Row::H => Stores::Nothing,
         Row::Move(op) => move_stores(op, o),
         Row::InOut(row) => unit_stores(row),
+        Row::Branch { op, .. } => branch_stores(op, o.p),
     }
 }
 

@@ -27,8 +27,8 @@ module _ (s : State) (i : Instr) (quiet : check_stop s.panel ≡ None) (fetched 
   pub row_SK : opcode i ≡ Some 34 → (is_device i 7 && part i 11 == 1) ≡ true → Row s (record s { arms = slice_set s.arms (drive - 1) (cylinder_of sector); regs = on_at s.regs (s.regs.ir + 12) })
   unfolding step instruction row_of_code action on_disk seek
   row_SK o disk = record {
-    steps = rw (fetched, o, o, console, disk, first, field, in_range, quiet) refl;
-    takes = rw (fetched, o, o, console, disk, first, field, in_range) refl;
+    steps = rw (fetched, o, console, disk, first, field, in_range, quiet) refl;
+    takes = rw (fetched, o, console, disk, first, field, in_range) refl;
   }
 
   module _ (room : a + 100 * count ≤ length s.core) (some : a < length s.core) (there : cylinder_of sector ≡ arm_of s.arms drive)
@@ -46,6 +46,6 @@ module _ (s : State) (i : Instr) (quiet : check_stop s.panel ≡ None) (fetched 
     row_RDN o cards disk kind =
         let read = sectors_read drive (cylinder_of sector) s.sectors digits count s.core a sector room texts in
         record {
-          steps = rw (fetched, o, o, console, cards, disk, kind, first, field, in_range, at_arm, inside, read, after_stored (joined digits sector count) a s, quiet) refl;
-          takes = rw (fetched, o, o, console, cards, disk, kind, first, field, in_range, at_arm, inside, read, stored_outside (joined digits sector count) a) refl;
+          steps = rw (fetched, o, console, cards, disk, kind, first, field, in_range, at_arm, inside, read, after_stored (joined digits sector count) a s, quiet) refl;
+          takes = rw (fetched, o, console, cards, disk, kind, first, field, in_range, at_arm, inside, read, stored_outside (joined digits sector count) a) refl;
         }

@@ -1,8 +1,6 @@
 -- The reading stops, or the digit is tested.
-use Rattle.std.proofs.Common.{sym}
+use Rattle.std.proofs.Common.{sym, not, ◌==◌}
 use Rattle.std.proofs.lemmas.Result.{err_from_is_err_and}
-use Rattle.branch_ops.specs.declared.BranchOp.TheVariants.{Bd}
-use Rattle.branch_ops.specs.Operands.{digit_test}
 use Rattle.branch_ops.proofs.RowLemmas.{stops}
 use Rattle.branch_ops.proofs.Known.{digit_goes}
 use Rattle.branch_ops.proofs.rows.bd.Goals as goal
@@ -15,4 +13,4 @@ returns-in_err-d g c = λ panel.
 
 -- the digit is tested
 pub returns : goal.returns
-returns g c = λ panel. rw c.go_if.ensures (digit_goes c.args.core.now panel c.args.regs.now c.args.p c.args.q (digit_test Bd) c.in_ok-d.d (sym c.in_ok-d.ensures.is))
+returns g c = λ panel. rw c.go_if.ensures (digit_goes c.args.core.now panel c.args.regs.now c.args.p c.args.q (λ d. not (d.value == 0)) c.in_ok-d.d (sym c.in_ok-d.ensures.is))

@@ -1,15 +1,36 @@
 -- Fields without a chain that come to operands here do everywhere.
-use Rattle.std.proofs.Common.{◌≡◌, sym, ◌∙◌, arith}
+use Rattle.std.proofs.Common.{sym, ◌∙◌, arith}
+use Rattle.digit_core.specs.Size.{size}
 use Rattle.cpu_step.specs.Rows.{uses}
-use Rattle.cpu_step.specs.Fields.{fields_used}
-use Rattle.cpu_step.proofs.Fielded.{settled, first_no_immediate}
+use Rattle.cpu_step.proofs.Fielded.{settled, first_no_immediate, same_first}
 use Rattle.cpu_step.proofs.memo.known_row.Goals as goal
 
-pub returns-in-Ok-operands : goal.returns-in-Ok-operands
-returns-in-Ok-operands g c =
+-- no branch
+pub returns-in_default : goal.returns-in_default
+returns-in_default g c =
     let l = c.size_law.ensures.length in
-    let are : c.of-fields.result ≡ fields_used (uses c.in-Ok.row) c.args.i.now = rw c.uses.ensures at c.of-fields.ensures in (
-      record { no_branch = c.requires.no_branch; row_is = sym c.in-Ok.ensures; fields_are = are },
-      settled c.args.core.now c.args.ir _ (omega arith) (omega arith) c.of-fields.result
-          (rw are (first_no_immediate (uses c.in-Ok.row) c.args.i.now)) (sym c.is_chained.ensures ∙ c.if-is_chained.false) c.in-Ok-operands.field-0 (sym c.in-Ok-operands.ensures.from),
+    let is = c.requires.row in (
+      is,
+      settled c.args.core.now c.args.ir (size g.row.M) (omega arith) (omega arith) c.args.fields
+          (rw is.fields_are (first_no_immediate (uses c.args.row) c.args.i.now)) c.requires.plain c.in-Ok.o (sym c.in-Ok.ensures.from),
     )
+
+-- a branch that isn't B
+pub returns-in_default-op : goal.returns-in_default-op
+returns-in_default-op g c =
+    let l = c.size_law.ensures.length in
+    let is = c.requires.row in (
+      rw c.in-Branch.is at is,
+      settled c.args.core.now c.args.ir (size g.row.M) (omega arith) (omega arith) c.args.fields
+          (rw is.fields_are (first_no_immediate (uses c.args.row) c.args.i.now)) c.requires.plain c.in-Ok.o (sym c.in-Ok.ensures.from),
+    )
+
+-- B
+pub returns-in-B : goal.returns-in-B
+returns-in-B g c =
+    let l = c.size_law.ensures.length in
+    let is = c.requires.row in
+    let comes = settled c.args.core.now c.args.ir (size g.row.M) (omega arith) (omega arith) c.args.fields
+    (rw is.fields_are (first_no_immediate (uses c.args.row) c.args.i.now)) c.requires.plain c.in-Ok.o (sym c.in-Ok.ensures.from) in
+    let first = same_first c.in-Ok.o _ (c.in-Ok.ensures.from ∙ comes.works c.args.core.now c.args.ir (omega arith)) in
+    record { code = _; f = c.args.fields; is = rw (c.in-Branch.is, c.in-B.is) at is; settled = comes; p_is = first }

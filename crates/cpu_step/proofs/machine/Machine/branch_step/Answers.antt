@@ -3,4 +3,4 @@ use Rattle.cpu_step.proofs.machine.Machine.branch_step.Goals as goal
 
 pub returns : goal.returns
 returns g c = λ now old running acts.
-    c.settle.ensures old now now running (acts c.known_branch-outcome.new.self c.known_branch-outcome.result c.known_branch-outcome.ensures)
+    c.settle.ensures old now now running (acts c.branch_by-outcome.new.self c.branch_by-outcome.result c.branch_by-outcome.ensures)

@@ -1,5 +1,5 @@
 -- What the row did ends the step.
-use Rattle.std.proofs.Common.{refl, ap}
+use Rattle.std.proofs.Common.{refl, ap, arith}
 use Rattle.std.specs.Prelude.{Ok}
 use Rattle.cpu_step.specs.declared.machine.Outcome.TheVariants as outcome
 use Rattle.cpu_step.specs.declared.rows.Row.TheVariants as row
@@ -34,6 +34,14 @@ returns-in-Move g c = λ old running acts.
 pub returns-in-InOut : goal.returns-in-InOut
 unfolding action
 returns-in-InOut g c = λ old running acts. c.in_out_step.ensures old running (λ mid outcome acted. acts mid outcome (rw c.in-InOut.is acted))
+
+pub returns-in-Branch : goal.returns-in-Branch
+unfolding action
+returns-in-Branch g c = λ old running acts.
+    (rw c.tested.ensures at c.branch_step.ensures) (g.H.Host.seen c.args.host.now) old running (λ mid outcome acted. acts mid outcome (rw c.in-Branch.is (acted (g.H.Host.seen c.args.host.now))))
+
+pub branch_step-requires : goal.branch_step-requires
+branch_step-requires g c = rw c.tested.ensures (omega arith, (c.requires.p, (c.requires.q, c.requires.ir)))
 
 pub returns-in-Nop : goal.returns-in-Nop
 unfolding action
