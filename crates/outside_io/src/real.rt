@@ -176,6 +176,11 @@ where
     fn is_on_screen(&self, unit: Unit) -> bool {
         matches!(unit, Unit::Typed | Unit::Report) && !self.bound[unit.place()]
     }
+
+    // Whether the unit's bytes go nowhere.
+    fn is_dropped(&self, unit: Unit) -> bool {
+        !matches!(unit, Unit::Typed | Unit::Report) && !self.bound[unit.place()]
+    }
 }
 
 impl<'a, R: Files + Print + Clock + AllocGlobal> Host for RealHost<'a, R>
@@ -228,6 +233,9 @@ where
         ensures answer { Puts (real_seen self.old) (real_seen self.new) unit piece.now result }
         ensures room { pack_room self.new ≡ pack_room self.old }
     {
+        if self.is_dropped(unit) {
+            return Put::Taken(piece.len());
+        }
         let on_screen = self.is_on_screen(unit);
         match write_out(self.rt, &mut self.files, on_screen, unit, piece) {
             Err(trouble) => {
