@@ -23,7 +23,11 @@ use Rattle.cpu_step.specs.declared.rows.Operands.{Operands}
 use Rattle.cpu_step.specs.declared.fields.Fields.{Fields}
 use Rattle.cpu_step.specs.declared.memo.Known.{Known}
 use Rattle.cpu_step.specs.declared.memo.Known.TheVariants as known
-use Rattle.cpu_step.specs.Rows.{instruction_row, row_by, row_of_code, uses}
+use Rattle.instruction_table.specs.declared.Op.{Op}
+use Rattle.instruction_table.specs.declared.Op.TheVariants as op
+use Rattle.instruction_table.specs.declared.InstructionRow.{InstructionRow}
+use Rattle.instruction_table.specs.Table.{instruction_of, op_of}
+use Rattle.cpu_step.specs.Rows.{row_of_op, row_by_table, instruction_row, row_by, row_of_code, uses}
 use Rattle.cpu_step.specs.Act.{operands}
 use Rattle.cpu_step.specs.Fields.{number_in, fields_used, operands_at, HoldOperands}
 use Rattle.cpu_step.specs.Known.{digits_in, instr_at, AreGood, AreTwelve, AreSettled, IsRow, IsKnown, code_in, ComesToRow, ComesTo}
@@ -52,10 +56,50 @@ good_reads c h = passed (count_ones c % 2 == 0) (is_value (c % 16)) (digit_of_ce
 
 -- a row is found by the digits alone, wherever they stand
 module _ (ir low high : ℕ) where
+  same_row_of : (o : Op) → row_of_op o (instr_at ir low high) ≡ row_of_op o (instr_at 0 low high)
+  same_row_of op.A = refl
+  same_row_of op.Am = refl
+  same_row_of op.S = refl
+  same_row_of op.Sm = refl
+  same_row_of op.C = refl
+  same_row_of op.Cm = refl
+  same_row_of op.Td = refl
+  same_row_of op.Tdm = refl
+  same_row_of op.Tf = refl
+  same_row_of op.Tfm = refl
+  same_row_of op.Bt = refl
+  same_row_of op.Btm = refl
+  same_row_of op.Tr = refl
+  same_row_of op.Sf = refl
+  same_row_of op.Cf = refl
+  same_row_of op.K = refl
+  same_row_of op.Dn = refl
+  same_row_of op.Rn = refl
+  same_row_of op.Ra = refl
+  same_row_of op.Wn = refl
+  same_row_of op.Wa = refl
+  same_row_of op.Nop = refl
+  same_row_of op.Bb = refl
+  same_row_of op.Bd = refl
+  same_row_of op.Bnf = refl
+  same_row_of op.Bnr = refl
+  same_row_of op.Bng = refl
+  same_row_of op.Bi = refl
+  same_row_of op.Bni = refl
+  same_row_of op.H = refl
+  same_row_of op.B = refl
+  same_row_of op.Mf = refl
+  same_row_of op.Tns = refl
+  same_row_of op.Tnf = refl
+
+  same_by_table : (r : Option InstructionRow) → row_by_table r (instr_at ir low high) ≡ row_by_table r (instr_at 0 low high)
+  same_by_table None = refl
+  same_by_table (Some r) = same_row_of (op_of r)
+
   same_row_by : (code : Option ℕ) → row_by code (instr_at ir low high) ≡ row_by code (instr_at 0 low high)
   unfolding row_of_code
   same_row_by None = refl
-  same_row_by (Some code) = refl
+  same_row_by (Some code) = same_by_table (instruction_of code)
 
   pub same_row : instruction_row (instr_at ir low high) ≡ instruction_row (instr_at 0 low high)
   same_row = same_row_by (opcode (instr_at ir low high))
