@@ -2,7 +2,7 @@
 //
 // - `digit|AT` what is read there, as any digit and as a decimal one; `operand|AT` the operand whose field ends there
 // - `fetch|IR` the instruction's opcode, its device or indicator, its twelve digits; `P|IR`, `Q|IR`, `immediate Q|IR` its operands
-// - `stops|` the number of each stop
+// - `stops|` the number of each stop; `code|CODE` the row that the table of instructions has of an operation code
 // - `branch|` carries out the branch at IR, over the registers that `ir|` and `ir2|` set
 use crate::lines::{RowLine, number, place};
 use addr_indirect::{
@@ -13,6 +13,7 @@ use card_code::object_char;
 use cpu_step::Machine;
 use digit_core::{Core, Digit};
 use indicators::Panel;
+use instruction_table::{instruction_law, instruction_of};
 use std::alloc::{AllocError, Global};
 use std::io;
 
@@ -106,6 +107,18 @@ fn show_stops(rt: &impl Print) -> io::Result<()> {
     Ok(())
 }
 
+// Prints the row of an operation code; false where the line names none.
+fn show_code(rt: &impl Print, line: &RowLine<'_>) -> io::Result<bool> {
+    instruction_law();
+    match number(line.first) {
+        Some(code) if code < 100 => {
+            println!(rt; "{}|{:?}", line.text, instruction_of(code as u8))?;
+            Ok(true)
+        }
+        _ => Ok(false),
+    }
+}
+
 // Prints what is read in core; false where the line is not known.
 pub(crate) fn show<const M: u32>(
     rt: &impl Print,
@@ -115,6 +128,7 @@ pub(crate) fn show<const M: u32>(
 ) -> io::Result<bool> {
     match line.name {
         "stops" => show_stops(rt)?,
+        "code" => return show_code(rt, line),
         "fetch" => return show_instruction(rt, alloc, core, line),
         "digit" => {
             let at = number(line.first).unwrap_or(0);
