@@ -102,9 +102,10 @@ fn say_ending<S: Sink>(alloc: Global, read: &Read<'_>, ending: Ending<'_>, error
     ensures { SaysEnding ending.entry read.now.words.now (S.said errors.old) (S.said errors.new) }
 {
     let message = Message::of(ending, read);
-    if !message.is_empty() {
-        say(alloc, &message, errors);
+    if message.is_empty() {
+        return;
     }
+    say(alloc, &message, errors);
 }
 
 // Says a message as one piece.

@@ -1,5 +1,5 @@
 -- Tables one behind another, and tables of other values.
-use Rattle.std.proofs.Common.{◌≡◌, ◌∙◌, ℕ, true, false, List, [], ◌∷◌, ◌++◌, map, Some, None, bytes_eq, if◌then◌else◌, refl}
+use Rattle.std.proofs.Common.{◌≡◌, ◌∙◌, ℕ, true, false, List, [], ◌∷◌, ◌++◌, map, Some, bytes_eq, if◌then◌else◌, refl}
 use Rattle.std.specs.Option.{option_map, option_or}
 use Rattle.sps_ops.specs.declared.operation.Operation.TheVariants.{Declare}
 use Rattle.line_words.specs.Rows.{Row, value_by_name, with_values}

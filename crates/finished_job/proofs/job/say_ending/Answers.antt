@@ -3,12 +3,12 @@ use Rattle.std.proofs.Common.{◌≡◌, true, false, sym, ◌∙◌, refl}
 use Rattle.job_messages.specs.Messages.{is_empty}
 use Rattle.finished_job.proofs.job.say_ending.Goals as goal
 
-pub returns-then-not-is_empty : goal.returns-then-not-is_empty
-returns-then-not-is_empty g c =
-    let some : is_empty c.of-message.result ≡ false = sym c.is_empty.ensures ∙ c.if-not-is_empty.true in
-    record { message = c.of-message.result; is = c.of-message.ensures; says = rw some c.say.ensures }
-
-pub returns-else-not-is_empty : goal.returns-else-not-is_empty
-returns-else-not-is_empty g c =
-    let none : is_empty c.of-message.result ≡ true = sym c.is_empty.ensures ∙ c.if-not-is_empty.false in
+pub returns-then-is_empty : goal.returns-then-is_empty
+returns-then-is_empty g c =
+    let none : is_empty c.of-message.result ≡ true = sym c.is_empty.ensures ∙ c.if-is_empty.true in
     record { message = c.of-message.result; is = c.of-message.ensures; says = rw none refl }
+
+pub returns : goal.returns
+returns g c =
+    let some : is_empty c.of-message.result ≡ false = sym c.is_empty.ensures ∙ c.if-is_empty.false in
+    record { message = c.of-message.result; is = c.of-message.ensures; says = rw some c.say.ensures }
