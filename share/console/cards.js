@@ -1,14 +1,6 @@
 // Cards: the picture of one, the same as bin/cards --svg draws, and the hopper and the punch.
 
-const HOLES = (() => {
-  const holes = {}, zones = { 12: "ABCDEFGHI", 11: "JKLMNOPQR", 0: "/STUVWXYZ" };
-  for (let i = 0; i < 10; i++) holes[i] = [String(i)];
-  for (const zone in zones) [...zones[zone]].forEach((c, i) => { holes[c] = [zone, String(i + 1)]; });
-  const others = { " ": "", "+": "12", "-": "11", "]": "11 0", "=": "3 8", "@": "4 8", ".": "12 3 8", ")": "12 4 8", "$": "11 3 8", "*": "11 4 8", ",": "0 3 8", "(": "0 4 8", "|": "0 2 8",
-    "!": "11 2 8", "}": "0 7 8", "\"": "11 7 8" };
-  for (const c in others) holes[c] = others[c].split(" ").filter(Boolean);
-  return holes;
-})();
+const HOLES = Object.fromEntries(tableOf("characters").map(line => [line[0], line.slice(1).trim().split(" ")[0].split("-")]));
 const ROWS = ["12", "11", "0", "1", "2", "3", "4", "5", "6", "7", "8", "9"];
 
 // A number with one digit behind the point. A half is rounded to the even digit, as awk's printf does.

@@ -5,18 +5,25 @@ const WITHOUT = "0123456789|@}", FLAGGED = "]JKLMNOPQR!*\"", VALUES = [0, 1, 2, 
 const CODES = [6, 7, 9, 11, 12, 14, 16, 17, 36, 37, 38];
 const INDICATORS = { 6: "read chk", 7: "write chk", 9: "last card", 11: "high / +", 12: "equal / 0", 14: "overflow", 16: "parity even", 17: "parity odd",
   36: "disk addr", 37: "disk len", 38: "cylinder" };
-const OPERATIONS = {
-  11: ["AM", "add immediate"], 12: ["SM", "subtract immediate"], 14: ["CM", "compare immediate"], 15: ["TDM", "transmit digit immediate"],
-  16: ["TFM", "transmit field immediate"], 17: ["BTM", "branch and transmit immediate"], 21: ["A", "add"], 22: ["S", "subtract"], 24: ["C", "compare"],
-  25: ["TD", "transmit digit"], 26: ["TF", "transmit field"], 27: ["BT", "branch and transmit"], 31: ["TR", "transmit record"], 32: ["SF", "set flag"],
-  33: ["CF", "clear flag"], 34: ["K", "control"], 35: ["DN", "dump numerically"], 36: ["RN", "read numerically"], 37: ["RA", "read alphamerically"],
-  38: ["WN", "write numerically"], 39: ["WA", "write alphamerically"], 41: ["NOP", "no operation"], 42: ["BB", "branch back"], 43: ["BD", "branch on digit"],
-  44: ["BNF", "branch no flag"], 45: ["BNR", "branch no record mark"], 46: ["BI", "branch indicator"], 47: ["BNI", "branch no indicator"], 48: ["H", "halt"],
-  49: ["B", "branch"], 55: ["BNG", "branch no group mark"], 71: ["MF", "move flag"], 72: ["TNS", "transmit numerical strip"],
-  73: ["TNF", "transmit numerical fill"],
-};
-const WITHOUT_P = new Set([41, 42, 48]), WITH_Q = new Set([21, 22, 24, 25, 26, 27, 31, 43, 44, 45, 55, 71, 72, 73]);
-const IMMEDIATE = new Set([11, 12, 14, 15, 16, 17]), SUMS = new Set([11, 12, 14, 21, 22, 24]);
+
+// The lines of a table that stands in the page, behind its words: share/operations.txt or share/characters.txt.
+function tableOf(id) {
+  const lines = document.getElementById(id).textContent.split("\n");
+  return lines.slice(lines.indexOf("", 1) + 1).filter(Boolean);
+}
+
+// The instructions by their opcodes: the name, the name in words, whether it is a branch, the operands, and the cells of core that it is about. And the
+// declaratives.
+const OPERATIONS = {}, DECLARATIVES = new Set();
+(() => {
+  let kind = "";
+  for (const line of tableOf("operations")) {
+    const [code, name, operands, cells, ...words] = line.split(/ +/);
+    if (code === "--") DECLARATIVES.add(name);
+    else if (!/^\d\d$/.test(code)) kind = line;
+    else if (cells) OPERATIONS[Number(code)] = { name, long: words.join(" "), branches: kind === "branches", operands, cells };
+  }
+})();
 
 const five = a => String(a).padStart(5, "0");
 const isFlag = c => FLAGGED.includes(c);
@@ -60,33 +67,32 @@ function decode(core, ir) {
   if (ir === null || ir === undefined) return { bad: "not known", fields: {} };
   if (ir % 2) return { bad: "an odd address", fields: {} };
   if (ir + 12 > core.length) return { bad: "outside core", fields: {} };
-  const cells = core.slice(ir, ir + 12), d = [...cells].map(valueOf), op = d[0] * 10 + d[1];
-  const it = { cells, op, name: OPERATIONS[op] ? OPERATIONS[op][0] : "?", long: OPERATIONS[op] ? OPERATIONS[op][1] : "no such instruction", fields: {} };
-  if (!OPERATIONS[op]) { it.bad = "no such instruction"; return it; }
+  const cells = core.slice(ir, ir + 12), d = [...cells].map(valueOf), op = d[0] * 10 + d[1], known = OPERATIONS[op];
+  const it = { cells, op, name: known ? known.name : "?", long: known ? known.long : "no such instruction", fields: {} };
+  if (!known) { it.bad = "no such instruction"; return it; }
   const device = d[8] * 10 + d[9];
-  if (!WITHOUT_P.has(op) && !(op === 34 && device === 1)) it.p = operand(core, ir + 6);
-  if (WITH_Q.has(op)) it.q = operand(core, ir + 11);
-  else if (IMMEDIATE.has(op)) it.q = { at: ir + 11, chain: [], immediate: true };
+  if (known.operands !== "none" && !(op === 34 && device === 1)) it.p = operand(core, ir + 6);
+  if (known.operands.endsWith(",Q")) it.q = operand(core, ir + 11);
+  else if (known.operands.endsWith(",imm")) it.q = { at: ir + 11, chain: [], immediate: true };
   if (op >= 34 && op <= 39) {
     it.device = { 1: "typewriter", 4: "card punch", 5: "card reader", 7: "disk" }[device] || "no device";
     if (device === 1 && (op === 36 || op === 37)) it.device = "keyboard";
   }
   if (op === 46 || op === 47) it.tests = device;
-  if ([17, 27, 43, 44, 45, 46, 47, 49, 55].includes(op) && it.p) it.branch = it.p.at;
+  if (known.branches && it.p) it.branch = it.p.at;
   if (!(it.p && it.p.bad) && !(it.q && it.q.bad)) it.fields = fieldsOf(core, op, device, it.p && it.p.at, it.q && it.q.at);
   return it;
 }
 
 function fieldsOf(core, op, device, p, q) {
-  const n = core.length - 1, clip = (a, b) => [Math.max(0, a), Math.min(n, b)], f = {};
-  if (SUMS.has(op)) { f.p = downTo(core, p); f.q = downTo(core, q); }
-  else if ([15, 25, 71].includes(op)) { f.p = [p, p]; f.q = [q, q]; }
-  else if (op === 26 || op === 16) { f.q = downTo(core, q); f.p = clip(p - (f.q[1] - f.q[0]), p); }
-  else if (op === 27 || op === 17) { f.q = downTo(core, q); f.p = clip(p - 1 - (f.q[1] - f.q[0]), p - 1); }
-  else if (op === 31) { f.q = upTo(core, q, 1); f.p = clip(p, p + f.q[1] - f.q[0]); }
-  else if (op === 32 || op === 33) f.p = [p, p];
-  else if ([43, 44, 45, 55].includes(op)) f.q = [q, q];
-  else if (op === 72 || op === 73) { f.q = downTo(core, q); f.p = clip(p - 2 * (f.q[1] - f.q[0] + 1) + 1, p); }
+  const n = core.length - 1, clip = (a, b) => [Math.max(0, a), Math.min(n, b)], f = {}, cells = OPERATIONS[op].cells;
+  if (cells === "sum" || cells === "compare") { f.p = downTo(core, p); f.q = downTo(core, q); }
+  else if (cells === "cell") { f.p = [p, p]; if (q !== undefined) f.q = [q, q]; }
+  else if (cells === "field") { f.q = downTo(core, q); f.p = clip(p - (f.q[1] - f.q[0]), p); }
+  else if (cells === "below") { f.q = downTo(core, q); f.p = clip(p - 1 - (f.q[1] - f.q[0]), p - 1); }
+  else if (cells === "record") { f.q = upTo(core, q, 1); f.p = clip(p, p + f.q[1] - f.q[0]); }
+  else if (cells === "tested") f.q = [q, q];
+  else if (cells === "pairs") { f.q = downTo(core, q); f.p = clip(p - 2 * (f.q[1] - f.q[0] + 1) + 1, p); }
   else if ([34, 36, 38].includes(op) && device === 7) {
     f.p = clip(p, p + 13);
     const digits = [...core.slice(p + 6, p + 14)].map(valueOf).join(""), count = Number(digits.slice(0, 3)), from = Number(digits.slice(3));
@@ -104,8 +110,8 @@ function fieldsOf(core, op, device, p, q) {
 // has stored.
 function lookedUp(before, after, ir) {
   const it = decode(before, ir);
-  if (!it.fields.p || !SUMS.has(it.op)) return null;
-  const p = it.p.at, q = it.q.at, core = [...before], compare = it.op % 10 === 4, cells = [];
+  if (!it.fields.p || !/^(sum|compare)$/.test(OPERATIONS[it.op].cells)) return null;
+  const p = it.p.at, q = it.q.at, core = [...before], compare = OPERATIONS[it.op].cells === "compare", cells = [];
   const minus = isFlag(core[p]) !== isFlag(core[q]), complement = it.op % 10 === 1 ? minus : !minus, length = it.fields.p[1] - it.fields.p[0] + 1;
   const store = (at, digit) => { core[at] = isFlag(core[at]) ? FLAGGED[digit] : WITHOUT[digit]; };
   const cycle = (x, y, c, turned) => {

@@ -1,6 +1,5 @@
 // The listing with its breakpoints, and the fields that have a label.
 
-const DECLARATIVES = new Set("DS DSS DAS DC DSC DAC DSA DSB DNB DGM DDA DORG DEND HEAD".split(" "));
 const LINES_MOST = 1500;
 
 function newListing() {
@@ -108,15 +107,7 @@ function moveCursor(down) {
 }
 
 // What stands in the fields that have a label: as digits with their flags, and as a number or a text.
-const PAIRS = (() => {
-  const pairs = { 0: " ", 3: ".", 4: ")", 16: "+", 19: "$", 20: "*", 32: "-", 33: "/", 35: ",", 36: "(", 51: "=", 52: "@" };
-  const put = (zone, from, chars) => [...chars].forEach((c, i) => { pairs[zone * 16 + from + i] = c; });
-  put(4, 1, "ABCDEFGHI");
-  put(5, 0, "]JKLMNOPQR");
-  put(6, 2, "STUVWXYZ");
-  put(7, 0, "0123456789");
-  return pairs;
-})();
+const PAIRS = Object.fromEntries(tableOf("characters").map(line => [line.slice(1).trim().split(/ +/)[2], line[0]]));
 const FIELDS = new Set(["DS", "DSS", "DSC", "DC", "DSA", "DSB", "DAS", "DAC"]);
 
 function newFields() {
@@ -136,7 +127,7 @@ function newFields() {
 function meaning(field, cells) {
   if (field.isText) {
     let text = "";
-    for (let i = 0; i + 1 < cells.length && valueOf(cells[i + 1]) !== 10; i += 2) text += PAIRS[valueOf(cells[i]) * 16 + valueOf(cells[i + 1])] || "?";
+    for (let i = 0; i + 1 < cells.length && valueOf(cells[i + 1]) !== 10; i += 2) text += PAIRS[bare(cells[i]) + bare(cells[i + 1])] || "?";
     return "\u201C" + text + "\u201D";
   }
   if (!field.isNumber || [...cells].some(c => valueOf(c) < 0 || valueOf(c) > 9)) return "";

@@ -5,6 +5,7 @@ import hashlib
 import os
 
 PARTS = (("style", ("page.css",)), ("script", ("core.js", "engines.js", "cards.js", "view.js", "drawing.js", "listing.js", "running.js", "controls.js")))
+TABLES = ("operations", "characters")
 RECORD = '<script type="application/json" id="record"></script>'
 
 
@@ -14,6 +15,9 @@ def read_page(folder):
         with open(os.path.join(folder, name), encoding="utf-8") as file:
             return file.read()
     page = read("page.html")
+    for name in TABLES:
+        table = f'<script type="text/plain" id="{name}">'
+        page = page.replace(table, table + "\n" + read(os.path.join(os.pardir, name + ".txt")))
     rules = ["default-src 'none'", "connect-src 'self'", "img-src data:", "base-uri 'none'", "form-action 'none'", "frame-ancestors 'none'"]
     for tag, names in PARTS:
         text = "\n" + "".join(read(name) for name in names)
