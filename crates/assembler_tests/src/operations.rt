@@ -1,87 +1,12 @@
-// One statement for every operation, and the digits that it declares.
+// One statement for every operation, and the digits that it declares. What each mnemonic stands for is told by rows of `call_rows`.
 use crate::sources::{digits_text, program_of};
+use instruction_table::{INSTRUCTIONS, OperandUse};
 use std::alloc::Global;
 use std::process::Abort;
 use std::test::Fail;
 
 // An operation, its operands, and the digits of the statement.
 type Row = (&'static str, &'static str, &'static str);
-
-// Each mnemonic of the instruction table. The immediate ones but TDM have a flag on Q7.
-const MNEMONICS: [Row; 34] = [
-    ("A", "12345,678", "211234500678"),
-    ("AM", "12345,678", "1112345]0678"),
-    ("S", "12345,678", "221234500678"),
-    ("SM", "12345,678", "1212345]0678"),
-    ("C", "12345,678", "241234500678"),
-    ("CM", "12345,678", "1412345]0678"),
-    ("TD", "12345,678", "251234500678"),
-    ("TDM", "12345,678", "151234500678"),
-    ("TF", "12345,678", "261234500678"),
-    ("TFM", "12345,678", "1612345]0678"),
-    ("BT", "12345,678", "271234500678"),
-    ("BTM", "12345,678", "1712345]0678"),
-    ("TR", "12345,678", "311234500678"),
-    ("SF", "12345,678", "321234500678"),
-    ("CF", "12345,678", "331234500678"),
-    ("K", "12345,678", "341234500678"),
-    ("DN", "12345,678", "351234500678"),
-    ("RN", "12345,678", "361234500678"),
-    ("RA", "12345,678", "371234500678"),
-    ("WN", "12345,678", "381234500678"),
-    ("WA", "12345,678", "391234500678"),
-    ("NOP", "12345,678", "411234500678"),
-    ("BB", "12345,678", "421234500678"),
-    ("BD", "12345,678", "431234500678"),
-    ("BNF", "12345,678", "441234500678"),
-    ("BNR", "12345,678", "451234500678"),
-    ("BNG", "12345,678", "551234500678"),
-    ("BI", "12345,678", "461234500678"),
-    ("BNI", "12345,678", "471234500678"),
-    ("H", "12345,678", "481234500678"),
-    ("B", "12345,678", "491234500678"),
-    ("MF", "12345,678", "711234500678"),
-    ("TNS", "12345,678", "721234500678"),
-    ("TNF", "12345,678", "731234500678"),
-];
-
-// The same by their opcodes.
-const OPCODES: [Row; 34] = [
-    ("11", "12345,678", "1112345]0678"),
-    ("12", "12345,678", "1212345]0678"),
-    ("14", "12345,678", "1412345]0678"),
-    ("15", "12345,678", "151234500678"),
-    ("16", "12345,678", "1612345]0678"),
-    ("17", "12345,678", "1712345]0678"),
-    ("21", "12345,678", "211234500678"),
-    ("22", "12345,678", "221234500678"),
-    ("24", "12345,678", "241234500678"),
-    ("25", "12345,678", "251234500678"),
-    ("26", "12345,678", "261234500678"),
-    ("27", "12345,678", "271234500678"),
-    ("31", "12345,678", "311234500678"),
-    ("32", "12345,678", "321234500678"),
-    ("33", "12345,678", "331234500678"),
-    ("34", "12345,678", "341234500678"),
-    ("35", "12345,678", "351234500678"),
-    ("36", "12345,678", "361234500678"),
-    ("37", "12345,678", "371234500678"),
-    ("38", "12345,678", "381234500678"),
-    ("39", "12345,678", "391234500678"),
-    ("41", "12345,678", "411234500678"),
-    ("42", "12345,678", "421234500678"),
-    ("43", "12345,678", "431234500678"),
-    ("44", "12345,678", "441234500678"),
-    ("45", "12345,678", "451234500678"),
-    ("46", "12345,678", "461234500678"),
-    ("47", "12345,678", "471234500678"),
-    ("48", "12345,678", "481234500678"),
-    ("49", "12345,678", "491234500678"),
-    ("55", "12345,678", "551234500678"),
-    ("71", "12345,678", "711234500678"),
-    ("72", "12345,678", "721234500678"),
-    ("73", "12345,678", "731234500678"),
-];
 
 // Each mnemonic that says the whole Q.
 const UNIQUE: [Row; 46] = [
@@ -224,27 +149,51 @@ const DECLARATIVES: [Row; 41] = [
     ("DDA", "9,19999,199,99999", "91999919999999"),
 ];
 
-// Each row stands behind a DORG, and before a halt to start at and the end, which is a DEND.
+// A statement stands behind a DORG, and before a halt to start at and the end, which is a DEND.
+fn stands(
+    rt: &impl Abort,
+    alloc: Global,
+    line: &str,
+    digits: &str,
+    instruction: bool,
+) -> Result<(), Fail> {
+    let lines = ["      DORG500", line, "START H", "      DENDSTART"];
+    let program = program_of(alloc, &lines)?;
+    let placed = program.placed.as_slice();
+    assert!(rt; placed.len() == 4, "{line}");
+    let shown = digits_text(alloc, placed[1].digits.as_slice())?;
+    assert!(rt; shown.as_str() == digits, "{line}");
+    assert!(rt; placed[1].instruction == instruction, "{line}");
+    assert!(rt; placed[3].digits.as_slice().is_empty(), "{line}");
+    assert!(rt; !placed[3].instruction, "{line}");
+    Ok(())
+}
+
 fn stand(rt: &impl Abort, alloc: Global, rows: &[Row], instruction: bool) -> Result<(), Fail> {
     for (operation, operands, digits) in rows {
         let line = format!(in alloc; "      {operation:<4}{operands}")?;
-        let lines = ["      DORG500", line.as_str(), "START H", "      DENDSTART"];
-        let program = program_of(alloc, &lines)?;
-        let placed = program.placed.as_slice();
-        assert!(rt; placed.len() == 4, "{line}");
-        let shown = digits_text(alloc, placed[1].digits.as_slice())?;
-        assert!(rt; shown.as_str() == *digits, "{line}");
-        assert!(rt; placed[1].instruction == instruction, "{line}");
-        assert!(rt; placed[3].digits.as_slice().is_empty(), "{line}");
-        assert!(rt; !placed[3].instruction, "{line}");
+        stands(rt, alloc, line.as_str(), digits, instruction)?;
+    }
+    Ok(())
+}
+
+// Each instruction of the table, by its mnemonic and by its opcode; one with a field in Q has a flag on Q7.
+fn instructions_stand(rt: &impl Abort, alloc: Global) -> Result<(), Fail> {
+    for (mnemonic, row) in &INSTRUCTIONS {
+        let opcode = row.0;
+        let q7 = if row.2 == OperandUse::Field { ']' } else { '0' };
+        let digits = format!(in alloc; "{opcode}12345{q7}0678")?;
+        let by_name = format!(in alloc; "      {mnemonic:<4}12345,678")?;
+        let by_code = format!(in alloc; "      {opcode}  12345,678")?;
+        stands(rt, alloc, by_name.as_str(), digits.as_str(), true)?;
+        stands(rt, alloc, by_code.as_str(), digits.as_str(), true)?;
     }
     Ok(())
 }
 
 #[test]
 fn operations(rt: HostRuntime) -> Result<(), Fail> {
-    stand(&rt, rt.alloc(), &MNEMONICS, true)?;
-    stand(&rt, rt.alloc(), &OPCODES, true)?;
+    instructions_stand(&rt, rt.alloc())?;
     stand(&rt, rt.alloc(), &UNIQUE, true)?;
     stand(&rt, rt.alloc(), &OPERANDS, true)?;
     stand(&rt, rt.alloc(), &DECLARATIVES, false)?;

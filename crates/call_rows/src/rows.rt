@@ -7,8 +7,8 @@ use crate::lines::RowLine;
 use crate::panel::lamps;
 use crate::texts::show_text;
 use crate::{
-    cards, cells, characters, disk, features, fetches, moves, panel, readings, refused, steps,
-    sums, typing, words,
+    cards, cells, characters, disk, features, fetches, moves, names, panel, readings, refused,
+    steps, sums, typing, words,
 };
 use addr_indirect::Stop;
 use outside_io::Unit;
@@ -114,6 +114,7 @@ fn shows<const M: u32>(
         || words::show(rt, alloc, &desk.machine.core, line)?
         || fetches::show(rt, alloc, &desk.machine.core, line)?
         || characters::show(rt, &desk.machine.core, line)?
+        || names::show(rt, line)?
         || panel::show(rt, alloc, &desk.machine.panel, line)?
         || cards::show(rt, desk, line)?
         || disk::show(rt, desk, line)?

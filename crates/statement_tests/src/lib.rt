@@ -1,4 +1,4 @@
-//! Words of lines and of the command line, statements, operations, expressions, layouts and made sources, one call at a time, with results
+//! Words of lines and of the command line, statements, expressions, layouts and made sources, one call at a time, with results
 //! worked out by hand.
 #![tactic(auto)]
 
@@ -10,8 +10,6 @@ mod expressions;
 mod layouts;
 #[cfg(test)]
 mod made_sources;
-#[cfg(test)]
-mod operations;
 #[cfg(test)]
 mod statements;
 #[cfg(test)]
