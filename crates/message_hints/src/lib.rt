@@ -21,8 +21,6 @@ mod picture;
 mod places;
 mod placing;
 mod problems;
-#[cfg(test)]
-mod refusals;
 mod refused;
 mod rules;
 mod runs;

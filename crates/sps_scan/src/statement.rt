@@ -15,7 +15,7 @@ pub enum Shape {
     Blank,
     /// The line has over 80 bytes.
     Long,
-    /// A byte of columns 6 to 15 or of an operand part is none of blank, `A` to `Z`, `0` to `9` and `. ) + $ * - / , ( = @`.
+    /// A byte of columns 6 to 15 or of an operand part is no character of the assembler: one that has a pair of digits, but for `]`, `}` and `|`.
     BadColumn,
     /// Any other line: a statement with an operation.
     Plain,
