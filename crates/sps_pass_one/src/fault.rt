@@ -12,7 +12,7 @@ use sps_ops::Rule;
 pub struct Fault {
     /// The rule.
     pub rule: Rule,
-    /// The place of the part among the statement's parts, from 0, for the rules 7 to 13 and 20; `None` for all others.
+    /// The place of the part among the statement's parts, from 0, for the rules about a part; `None` for all others.
     pub part: Option<u8>,
 }
 

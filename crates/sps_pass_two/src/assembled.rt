@@ -79,7 +79,7 @@ pub enum AsmFault {
         statement: u32,
         /// The least rule that it breaks.
         rule: Rule,
-        /// The place of the first of the statement's operand parts that breaks the rule, from 0, for the rules 7 to 13 and 20; `None`
+        /// The place of the first of the statement's operand parts that breaks the rule, from 0, for the rules about a part; `None`
         /// for all others.
         part: Option<u8>,
     },
