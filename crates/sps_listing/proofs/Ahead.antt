@@ -2,7 +2,7 @@
 use Rattle.std.proofs.Common.{◌≡◌, ℕ, ◌+◌, Bool, List, [], ◌∷◌, refl, sym, ap, ◌∙◌, Option}
 use Rattle.sps_scan.specs.Statement.{StatementText, statement_of}
 use Rattle.sps_pass_one.specs.Layout.{State, first, state_before_next, counts_if, ends_if, head_after, PassStep, pass_step, statements, statements_of}
-use Rattle.sps_pass_one.proofs.Walk.{lines_left}
+use Rattle.sps_pass_one.proofs.Onward.{lines_left}
 
 -- what comes of the statements that are left is what comes of all
 pub record Ahead (T : Type 0) (answer : List PassStep → T) (number : ℕ) (is_ended : Bool) (head : Option ℕ) (rest : List ℕ) (whole : T) : Type 0 where

@@ -9,7 +9,7 @@ use Rattle.line_words.specs.Blanks.{without_back}
 use Rattle.sps_scan.specs.Statement.{statement_of}
 use Rattle.sps_pass_two.specs.Assembled.{PlacedText}
 use Rattle.report_lines.specs.Numbers.{with_line_feed}
-use Rattle.sps_pass_one.proofs.Walk.{lines_left}
+use Rattle.sps_pass_one.proofs.Onward.{lines_left}
 use Rattle.sps_listing.specs.Listing.{listed_columns, listing_line, listing_lines, listing_text, stands_at, later_of, last_statement_at}
 
 -- a statement that was found, or one that was found before it

@@ -5,10 +5,9 @@ ghost use Rattle.sps_listing.specs.Others.{head_at, first_with_label, line_rule,
 
 use crate::shown::line_at;
 use line_words::trimmed;
-use outside_io::split_line;
 use sps_expr::{Symbols, value};
 use sps_ops::Rule;
-use sps_pass_one::{MOST_STATEMENTS, counts_if, ends_if, head_after, is_label, locate, part_at};
+use sps_pass_one::{Walk, is_label, locate, part_at};
 use sps_scan::{Shape, scan};
 use std::alloc::{AllocError, Global};
 
@@ -16,23 +15,10 @@ use std::alloc::{AllocError, Global};
 fn head_at(source: &[u8], statement: u32) -> Option<Option<u8>>
     ensures { result ≡ head_at source.now statement }
 {
-    let mut number = 1u32;
-    let mut head = None;
-    let mut ended = false;
-    let mut rest = source;
-    while number <= MOST_STATEMENTS + 1 {
-        let Some((line, behind)) = split_line(rest) else {
-            return None;
-        };
-        if number == statement {
-            return Some(head);
+    for line in Walk::new(source) {
+        if line.number == statement {
+            return Some(line.head);
         }
-        let s = scan(line);
-        let active = counts_if(ended, s.shape);
-        head = head_after(head, active, &s);
-        ended = ends_if(ended, active, &s);
-        number += 1;
-        rest = behind;
     }
     None
 }
@@ -126,26 +112,14 @@ fn lost_step(
     ensures { IfOk result (λ found. found ≡ option_map number_and_rule (lost_step source.now head part.now)) }
 {
     let mut symbols = locate(alloc, source)?.symbols;
-    let mut number = 1u32;
-    let mut head_here = None;
-    let mut ended = false;
-    let mut rest = source;
-    while number <= MOST_STATEMENTS + 1 {
-        let Some((line, behind)) = split_line(rest) else {
-            return Ok(None);
-        };
-        let s = scan(line);
-        let name = label_columns(line);
-        let lost = has_lost_label(s.shape, ended, name);
-        define_lost(alloc, lost, head_here, &mut symbols, name, number)?;
+    for line in Walk::new(source) {
+        let shape = line.statement.shape;
+        let name = label_columns(line.text);
+        let lost = has_lost_label(shape, line.ended, name);
+        define_lost(alloc, lost, line.head, &mut symbols, name, line.number)?;
         if suffices(lost, head, part, &symbols) {
-            return Ok(Some((number, line_rule(s.shape))));
+            return Ok(Some((line.number, line_rule(shape))));
         }
-        let active = counts_if(ended, s.shape);
-        head_here = head_after(head_here, active, &s);
-        ended = ends_if(ended, active, &s);
-        number += 1;
-        rest = behind;
     }
     Ok(None)
 }

@@ -10,11 +10,11 @@ use crate::heads::{head_faults, head_in};
 use crate::operands::measure;
 use crate::place::{Place, Placing};
 use crate::placing::{nothing_at, placing_of};
+use crate::walk::Walk;
 use line_words::trimmed;
-use outside_io::split_line;
 use sps_expr::{Scope, Symbols, is_name};
 use sps_ops::{Declarative, Operation, Rule};
-use sps_scan::{Shape, Statement, scan};
+use sps_scan::{Shape, Statement};
 use std::alloc::{AllocError, Global};
 use std::marker::Model;
 
@@ -206,33 +206,20 @@ pub fn locate(alloc: Global, source: &[u8]) -> Result<Located, AllocError>
     let mut places = Vec::new(alloc);
     let mut symbols = Symbols::new(alloc);
     let mut at = 402;
-    let mut head = None;
-    let mut number = 1u32;
-    let mut ended = false;
-    let mut rest = source;
-    while number <= MOST_STATEMENTS + 1 {
-        let Some((line, behind)) = split_line(rest) else {
-            break;
-        };
-        let s = scan(line);
-        let active = counts_if(ended, s.shape);
-        let placing = placing_if(active, head, &symbols, at, &s);
+    for line in Walk::new(source) {
+        let placing = placing_if(line.active, line.head, &symbols, at, &line.statement);
         places.push(Place {
             location: at as i64,
             label: placing.label as i64,
             digits: placing.digits,
         })?;
         let label = Label {
-            name: trimmed(s.label),
+            name: trimmed(line.statement.label),
             value: placing.label,
-            statement: number,
+            statement: line.number,
         };
-        define_label(alloc, active, head, &mut symbols, &label)?;
-        head = head_after(head, active, &s);
-        ended = ends_if(ended, active, &s);
+        define_label(alloc, line.active, line.head, &mut symbols, &label)?;
         at = placing.next;
-        number += 1;
-        rest = behind;
     }
     Ok(Located {
         places: Places(places),
@@ -305,27 +292,21 @@ fn first_broken(source: &[u8], located: &Located) -> Option<(u32, Rule)>
     requires symbols { located.now.symbols ≡ symbols_of source.now }
     ensures { result ≡ first_broken_rule source.now }
 {
-    let mut number = 1u32;
-    let mut head = None;
-    let mut ended = false;
-    let mut rest = source;
     let mut places = located.places.as_slice();
-    while number <= MOST_STATEMENTS + 1 {
-        let Some((line, behind)) = split_line(rest) else {
-            return None;
-        };
+    for line in Walk::new(source) {
         let [place, more @ ..] = places else {
             unreachable!()
         };
-        let s = scan(line);
-        if let Some(fault) = layout_faults(head, &located.symbols, *place, ended, number, &s) {
-            return Some((number, fault.rule));
+        if let Some(fault) = layout_faults(
+            line.head,
+            &located.symbols,
+            *place,
+            line.ended,
+            line.number,
+            &line.statement,
+        ) {
+            return Some((line.number, fault.rule));
         }
-        let active = counts_if(ended, s.shape);
-        head = head_after(head, active, &s);
-        ended = ends_if(ended, active, &s);
-        number += 1;
-        rest = behind;
         places = more;
     }
     None

@@ -14,6 +14,7 @@ mod layout;
 mod operands;
 mod place;
 mod placing;
+mod walk;
 
 pub use ask::{Ask, Form, Reading, form_of};
 pub use fault::{Fault, broken_at_if, broken_if};
@@ -26,3 +27,4 @@ pub use layout::{
 pub use operands::{Answered, Measured, answer, in_bounds, is_blank, lacks, measure, part_at};
 pub use place::{Place, Placing};
 pub use placing::label_place;
+pub use walk::{SourceLine, Walk};

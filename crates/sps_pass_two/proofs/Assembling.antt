@@ -15,7 +15,7 @@ use Rattle.sps_pass_one.specs.Faults.{least}
 use Rattle.sps_pass_one.specs.declared.ask.Reading.TheVariants.{Expression}
 use Rattle.sps_pass_one.specs.Measure.{answer, in_bounds, lacks, read_as, part_at}
 use Rattle.sps_pass_one.specs.Layout.{first, state_before_next, counts_if, ends_if, head_after, is_end, operation_of, PassStep, pass_step, statements, statements_of, statement_place, statement_places, symbols_of, Refusal}
-use Rattle.sps_pass_one.proofs.Walk.{lines_left}
+use Rattle.sps_pass_one.proofs.Onward.{lines_left}
 use Rattle.sps_pass_one.proofs.Following.{Follows, place_is, next, next_done, next_state}
 use Rattle.sps_pass_two.specs.Operands.{operand_ask, value_or_0}
 use Rattle.sps_pass_two.specs.Broken.{statement_outcome, end_faults, first_address, refusal_of, statement_and_fault}

@@ -11,7 +11,7 @@ use Rattle.sps_pass_one.specs.Faults.{least}
 use Rattle.sps_pass_one.specs.Laws.{AllKnown}
 use Rattle.sps_pass_one.specs.Layout.{State, first, state_before_next, PassStep, pass_step, statements, statements_of, lines_of_source, statement_place, symbols_of}
 use Rattle.sps_pass_one.proofs.KnownSymbols.{known}
-use Rattle.sps_pass_one.proofs.Walk.{lines_left}
+use Rattle.sps_pass_one.proofs.Onward.{lines_left}
 use Rattle.sps_pass_two.specs.Broken.{end_faults, refusal_of}
 use Rattle.sps_pass_two.specs.Image.{cells_from, pieces_from}
 use Rattle.sps_pass_two.specs.Kept.{IsBelow, IsImage, IsProgram, AreKept}

@@ -1,5 +1,5 @@
 -- What is made of a statement, and of one statement after another.
-use Rattle.std.specs.Prelude.{ℕ, ◌≡◌, List, Option}
+use Rattle.std.specs.Prelude.{ℕ, ◌≡◌, Bool, List, Option}
 use Rattle.digit_core.specs.declared.Digit.{Digit}
 use Rattle.sps_scan.specs.Statement.{StatementText}
 use Rattle.sps_expr.specs.Symbol.{SymbolEntry}
@@ -13,7 +13,7 @@ use Rattle.sps_pass_two.specs.declared.outcome.StatementOutcome.{StatementOutcom
 use Rattle.sps_pass_two.specs.Operands.{StatementOutcome}
 use Rattle.sps_pass_two.specs.Broken.{begins_at}
 use Rattle.sps_pass_two.specs.Writing.{with_digits}
-use Rattle.sps_pass_two.specs.Making.{IsPlacedOn, stands_behind_end, start_after, placed_with}
+use Rattle.sps_pass_two.specs.Making.{IsPlacedOn, start_after, placed_with}
 
 -- an operand was answered: the least of its faults and one before them, and its value
 pub record IsAnswer (before : Option Fault) (a : Answer) (r : Answered) : Type 0 where
@@ -26,9 +26,8 @@ pub record Gives (before : Option Fault) (o : StatementOutcome) (r : MadeOutcome
   pub digits : r.digits.items ≡ o.digits
 
 -- one statement more was made: it stands at a place, and has digits
-pub record Adds (head : Option ℕ) (symbols : List SymbolEntry) (place : Place) (s : StatementText) (digits : List Digit)
+pub record Adds (ended : Bool) (head : Option ℕ) (symbols : List SymbolEntry) (place : Place) (s : StatementText) (digits : List Digit)
     (old new : Made) : Type 0 where
-  pub ended : new.ended ≡ stands_behind_end old.ended s
   pub cells : new.cells.items ≡ with_digits old.cells.items (begins_at place s) digits
-  pub start : new.start ≡ start_after old.ended old.start head symbols place s
-  pub placed : IsPlacedOn old.placed.items (placed_with old.ended place s digits) new.placed.items
+  pub start : new.start ≡ start_after ended old.start head symbols place s
+  pub placed : IsPlacedOn old.placed.items (placed_with ended place s digits) new.placed.items

@@ -1,5 +1,5 @@
 // What is made of one statement after another: the cells, the start and the placed statements.
-ghost use Rattle.std.specs.Prelude.{◌≡◌, ◌&&◌, not, [], false, replicate, None, IfOk, OnOk, if◌then◌else◌};
+ghost use Rattle.std.specs.Prelude.{◌≡◌, ◌&&◌, not, [], replicate, None, IfOk, OnOk, if◌then◌else◌};
 ghost use Rattle.sps_scan.specs.Statement.{statement_text};
 ghost use Rattle.sps_pass_one.specs.Layout.{counts_if, operation_of};
 ghost use Rattle.sps_pass_two.specs.Assembled.{is_instruction, counts_as_instruction};
@@ -23,8 +23,6 @@ use std::alloc::{AllocError, Global};
 // What was made of the statements so far.
 #[derive(Drop)]
 pub(crate) struct Made {
-    // Whether a DEND was one of them.
-    pub(crate) ended: bool,
     // The digit of each address.
     pub(crate) cells: Vec<Option<Digit>>,
     // What the first DEND gave as the start, or 0.
@@ -35,13 +33,11 @@ pub(crate) struct Made {
 
 // What is made of no statement, for a core of so many positions.
 pub(crate) fn nothing_made(alloc: Global, positions: u32) -> Result<Made, AllocError>
-    ensures ended { IfOk result (λ made. made.ended ≡ false) }
     ensures cells { IfOk result (λ made. made.cells.items ≡ replicate positions None) }
     ensures start { IfOk result (λ made. made.start ≡ 0) }
     ensures placed { IfOk result (λ made. made.placed.items ≡ []) }
 {
     Ok(Made {
-        ended: false,
         cells: empty_image(alloc, positions)?,
         start: 0,
         placed: Vec::new(alloc),
@@ -68,15 +64,15 @@ fn start_value(task: &Task<'_>) -> u32
     value_or_0(found.value).unsigned_abs() as u32
 }
 
-// The statement as it is placed, where a DEND may stand before it.
-fn placed_with(ended: bool, task: &Task<'_>, digits: Vec<Digit>) -> Placed
+// The statement as it is placed.
+fn placed_with(task: &Task<'_>, digits: Vec<Digit>) -> Placed
     ensures address { result.address ≡ task.now.place.label }
-    ensures instruction { result.instruction ≡ counts_as_instruction ended (text_in task.now) }
+    ensures instruction { result.instruction ≡ counts_as_instruction task.now.ended (text_in task.now) }
     ensures digits { result.digits ≡ digits.items }
 {
     Placed {
         address: task.place.label,
-        instruction: counts_if(ended, task.statement.shape)
+        instruction: counts_if(task.ended, task.statement.shape)
             && is_instruction(operation_of(task.statement)),
         digits: Digits::from_vec(digits),
     }
@@ -85,19 +81,18 @@ fn placed_with(ended: bool, task: &Task<'_>, digits: Vec<Digit>) -> Placed
 impl Made {
     // One statement more, which stands at a place and breaks no rule.
     pub(crate) fn add(&mut self, task: &Task<'_>, digits: Vec<Digit>) -> Result<(), AllocError>
-        ensures { OnOk result (Adds task.now.head task.now.symbols.now task.now.place
+        ensures { OnOk result (Adds task.now.ended task.now.head task.now.symbols.now task.now.place
             (text_in task.now) digits.items self.old self.new) }
     {
         let from = first_address(operation_of(task.statement), task.place);
         write(&mut self.cells, from as usize, &digits);
-        let active = counts_if(self.ended, task.statement.shape);
-        let ends = ends_if(self.ended, active, task.statement);
-        if ends && !self.ended {
+        let active = counts_if(task.ended, task.statement.shape);
+        let ends = ends_if(task.ended, active, task.statement);
+        if ends && !task.ended {
             self.start = start_value(task);
         }
-        let placed = placed_with(self.ended, task, digits);
+        let placed = placed_with(task, digits);
         self.placed.push(placed)?;
-        self.ended = ends;
         Ok(())
     }
 }

@@ -13,9 +13,7 @@ use crate::made::{Made, nothing_made};
 use crate::refuse::end_faults;
 use crate::statement::statement_outcome;
 use crate::task::Task;
-use outside_io::split_line;
-use sps_pass_one::{MOST_STATEMENTS, counts_if, head_after, locate};
-use sps_scan::scan;
+use sps_pass_one::{Walk, locate};
 use std::alloc::{AllocError, Global};
 
 // The image's pieces, the start and the statements of a source that breaks no rule.
@@ -49,45 +47,35 @@ pub fn assemble(alloc: Global, source: &[u8], positions: u32) -> Result<Assemble
     let located = locate(alloc, source)?;
     let mut places = located.places.as_slice();
     let mut made = nothing_made(alloc, positions)?;
-    let mut number = 1u32;
-    let mut head = None;
-    let mut rest = source;
-    while number <= MOST_STATEMENTS + 1 {
-        let Some((line, behind)) = split_line(rest) else {
-            break;
-        };
+    let mut walk = Walk::new(source);
+    while let Some(line) = walk.next() {
         let [place, more @ ..] = places else {
             unreachable!()
         };
-        let s = scan(line);
         let size = u64::from(positions);
         let task = Task {
-            statement: &s,
+            statement: &line.statement,
             place: *place,
-            number,
-            ended: made.ended,
-            head,
+            number: line.number,
+            ended: line.ended,
+            head: line.head,
             symbols: &located.symbols,
             positions: size,
         };
         let outcome = statement_outcome(alloc, &task)?;
         if let Some(fault) = outcome.worst {
             return Err(AsmFault::Broken {
-                statement: number,
+                statement: line.number,
                 rule: fault.rule,
                 part: fault.part,
             });
         }
-        let active = counts_if(made.ended, s.shape);
         made.add(&task, outcome.digits)?;
-        head = head_after(head, active, &s);
-        number += 1;
-        rest = behind;
         places = more;
     }
-    if let Some(fault) = end_faults(made.ended) {
+    if let Some(fault) = end_faults(walk.ended()) {
         return Err(AsmFault::Broken {
-            statement: number,
+            statement: walk.number(),
             rule: fault.rule,
             part: fault.part,
         });

@@ -1,6 +1,6 @@
 use Rattle.std.proofs.Common.{length, ap, arith, refl}
 use Rattle.outside_io.specs.declared.host.Unit.TheVariants as units
-use Rattle.sps_pass_one.proofs.Walk.{lines_front, no_lines}
+use Rattle.sps_pass_one.proofs.Onward.{lines_front, no_lines}
 use Rattle.sps_listing.proofs.Placed.{one_listed, no_line_left, no_statement_left, all_left}
 use Rattle.sps_listing.proofs.Sending.{begins_as, more_sent, cut_off, all_sent, left_as}
 use Rattle.sps_listing.proofs.listed.listing.Goals as goal

@@ -2,7 +2,7 @@ use Rattle.std.proofs.Common.{◌+◌, ◌∙◌, refl, sym, arith}
 use Rattle.sps_listing.specs.Others.{head_in_steps}
 use Rattle.sps_scan.specs.Statement.{statement_of}
 use Rattle.sps_pass_one.specs.Layout.{state_before_next, statements}
-use Rattle.sps_pass_one.proofs.Walk.{lines_left, lines_front, no_lines, enough_lines}
+use Rattle.sps_pass_one.proofs.Onward.{lines_left, lines_front, no_lines, enough_lines}
 use Rattle.sps_listing.proofs.Ahead.{begins, at_end, comes_here, next}
 use Rattle.sps_listing.proofs.OtherStatements.{head_here, head_later}
 use Rattle.sps_listing.proofs.other_statement.head_at.Goals as goal

@@ -1,7 +1,7 @@
 use Rattle.std.proofs.Common.{◌+◌, ◌∙◌, refl, sym, ap, arith, Option, option_map}
 use Rattle.sps_scan.specs.Statement.{statement_text, statement_of}
 use Rattle.sps_pass_one.specs.Layout.{PassStep, pass_step, state_before_next, statements, symbols_of}
-use Rattle.sps_pass_one.proofs.Walk.{lines_left, lines_front, no_lines, enough_lines}
+use Rattle.sps_pass_one.proofs.Onward.{lines_left, lines_front, no_lines, enough_lines}
 use Rattle.sps_listing.specs.Others.{number_and_rule}
 use Rattle.sps_listing.proofs.Ahead.{begins, at_end, comes_here, next}
 use Rattle.sps_listing.proofs.OtherStatements.{lost_in, none_lost, stops_here, goes_on, lost_is, symbols_are, names_it}

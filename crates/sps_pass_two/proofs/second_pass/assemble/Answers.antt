@@ -3,7 +3,7 @@ use Rattle.std.proofs.lemmas.List.{length-map}
 use Rattle.sps_pass_one.specs.declared.fault.Fault.{Fault}
 use Rattle.sps_pass_one.specs.Layout.{Refusal}
 use Rattle.sps_pass_two.specs.Broken.{statement_and_fault}
-use Rattle.sps_pass_one.proofs.Walk.{lines_left, lines_front, no_lines, enough_lines}
+use Rattle.sps_pass_one.proofs.Onward.{lines_left, lines_front, no_lines, enough_lines}
 use Rattle.sps_pass_one.proofs.Following.{first_place, no_place, is_some_place, comes_here}
 use Rattle.sps_pass_two.proofs.Refusing.{same_outcome, past_last}
 use Rattle.sps_pass_two.specs.Image.{pieces_from}
