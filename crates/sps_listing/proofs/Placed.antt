@@ -9,7 +9,9 @@ use Rattle.line_words.specs.Blanks.{without_back}
 use Rattle.sps_scan.specs.Statement.{statement_of}
 use Rattle.sps_pass_two.specs.Assembled.{PlacedText}
 use Rattle.report_lines.specs.Numbers.{with_line_feed}
-use Rattle.sps_pass_one.proofs.Onward.{lines_left}
+use Rattle.sps_pass_one.specs.declared.walk.SourceLine.{SourceLine}
+use Rattle.sps_pass_one.specs.Layout.{lines_of_source}
+use Rattle.sps_pass_one.specs.Walk.{WalkText, ComesTo}
 use Rattle.sps_listing.specs.Listing.{listed_columns, listing_line, listing_lines, listing_text, stands_at, later_of, last_statement_at}
 
 -- a statement that was found, or one that was found before it
@@ -35,19 +37,26 @@ unfolding last_statement_at
 none_left ps i number address before h = rw (drop_all i ps h) refl
 
 -- the listing of the lines that are left, beside the statements that are left
-abbrev pub listing_left : ℕ → List ℕ → List Placed → ℕ → List ℕ
-listing_left number rest ps i = listing_lines number (lines_left number rest) (map text_of_placed (drop i ps))
+abbrev pub listing_left : ℕ → List (List ℕ) → List Placed → ℕ → List ℕ
+listing_left number lines ps i = listing_lines number lines (map text_of_placed (drop i ps))
 
 -- the next line is listed
-pub one_listed : (ps : List Placed) (i : ℕ) (p : Placed) (number : ℕ) (rest line behind_it : List ℕ) → i < length ps → p ≡ slice_index_or ps i p → lines_left number rest ≡ line ∷ lines_left (number + 1) behind_it
-    → listing_left number rest ps i ≡ listing_line number line (text_of_placed p) ++ listing_left (number + 1) behind_it ps (i + 1)
+pub one_listed : (ps : List Placed) (i : ℕ) (p : Placed) (number : ℕ) (line : List ℕ) (lines left : List (List ℕ)) → i < length ps → p ≡ slice_index_or ps i p → lines ≡ line ∷ left
+    → listing_left number lines ps i ≡ listing_line number line (text_of_placed p) ++ listing_left (number + 1) left ps (i + 1)
 unfolding listing_lines
-one_listed ps i p number rest line behind_it h e e_lines = rw (e_lines, drop_more ps i p h, ← e) refl
+one_listed ps i p number line lines left h e e_lines = rw (e_lines, drop_more ps i p h, ← e) refl
+
+-- the same, where a walk comes to the line
+pub next_listed : (ps : List Placed) (i : ℕ) (p : Placed) (w v : WalkText) (x : SourceLine) → i < length ps → p ≡ slice_index_or ps i p → ComesTo w x v
+    → listing_left w.number w.lines ps i ≡ listing_line x.number x.text.now (text_of_placed p) ++ listing_left v.number v.lines ps (i + 1)
+next_listed ps i p w v x h e t =
+    let number : v.number ≡ w.number + 1 = ap (λ (m : WalkText). m.number) t.further in
+    rw (number, t.number) (one_listed ps i p w.number x.text.now w.lines v.lines h e t.line)
 
 -- no line is left
-pub no_line_left : (ps : List Placed) (i number : ℕ) (rest : List ℕ) → lines_left number rest ≡ [] → listing_left number rest ps i ≡ []
+pub no_line_left : (ps : List Placed) (i number : ℕ) (lines : List (List ℕ)) → lines ≡ [] → listing_left number lines ps i ≡ []
 unfolding listing_lines
-no_line_left ps i number rest e = rw e refl
+no_line_left ps i number lines e = rw e refl
 
 nothing_listed : (number : ℕ) (lines : List (List ℕ)) → listing_lines number lines [] ≡ []
 unfolding listing_lines
@@ -55,11 +64,11 @@ nothing_listed number [] = refl
 nothing_listed number (line ∷ lines) = refl
 
 -- no statement is left
-pub no_statement_left : (ps : List Placed) (i number : ℕ) (rest : List ℕ) → length ps ≤ i → listing_left number rest ps i ≡ []
-no_statement_left ps i number rest h = rw (drop_all i ps h) (nothing_listed number (lines_left number rest))
+pub no_statement_left : (ps : List Placed) (i number : ℕ) (lines : List (List ℕ)) → length ps ≤ i → listing_left number lines ps i ≡ []
+no_statement_left ps i number lines h = rw (drop_all i ps h) (nothing_listed number lines)
 
 -- all lines and all statements are left
-pub all_left : (source : List ℕ) (ps qs : List Placed) → ps ≡ qs → listing_left 1 source ps 0 ≡ listing_text source (map text_of_placed qs)
+pub all_left : (source : List ℕ) (ps qs : List Placed) → ps ≡ qs → listing_left 1 (lines_of_source source) ps 0 ≡ listing_text source (map text_of_placed qs)
 all_left source ps qs e = ap (λ (all : List Placed). listing_text source (map text_of_placed all)) e
 
 -- the columns and the text behind them are the line of a statement

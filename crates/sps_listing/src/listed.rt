@@ -4,7 +4,8 @@ ghost use Rattle.sps_listing.specs.Sending.{SendsLine, SendsListing};
 use crate::columns::listed_columns;
 use crate::line_end::without_back;
 use crate::two_parts::write_ended;
-use outside_io::{Host, Sent, Unit, split_line};
+use outside_io::{Host, Sent, Unit};
+use sps_pass_one::Walk;
 use sps_pass_two::{Assembled, Placed};
 
 // Writes the line of a statement.
@@ -28,18 +29,15 @@ fn write_line<H: Host>(number: u32, line: &[u8], placed: &Placed, host: &mut H) 
 pub fn listing<H: Host>(source: &[u8], assembled: &Assembled, host: &mut H) -> Sent
     ensures { SendsListing (H.seen host.old) (H.seen host.new) source.now assembled.now result }
 {
-    let mut number = 1u32;
-    let mut rest = source;
+    let mut walk = Walk::new(source);
     for placed in assembled.placed.as_slice() {
-        let Some((line, behind)) = split_line(rest) else {
+        let Some(line) = walk.next() else {
             return Sent::Done;
         };
-        match write_line(number, line, placed, host) {
+        match write_line(line.number, line.text, placed, host) {
             Sent::Done => {}
             Sent::Failed => return Sent::Failed,
         }
-        number += 1;
-        rest = behind;
     }
     Sent::Done
 }

@@ -15,10 +15,13 @@ use std::alloc::{AllocError, Global};
 fn head_at(source: &[u8], statement: u32) -> Option<Option<u8>>
     ensures { result ≡ head_at source.now statement }
 {
-    for line in Walk::new(source) {
+    let mut walk = Walk::new(source);
+    while let Some(line) = walk.next() {
         if line.number == statement {
-            return Some(line.head);
+            return Some(walk.head());
         }
+        let s = scan(line.text);
+        walk.pass(&s);
     }
     None
 }
@@ -112,14 +115,18 @@ fn lost_step(
     ensures { IfOk result (λ found. found ≡ option_map number_and_rule (lost_step source.now head part.now)) }
 {
     let mut symbols = locate(alloc, source)?.symbols;
-    for line in Walk::new(source) {
-        let shape = line.statement.shape;
+    let mut walk = Walk::new(source);
+    while let Some(line) = walk.next() {
+        let s = scan(line.text);
         let name = label_columns(line.text);
-        let lost = has_lost_label(shape, line.ended, name);
-        define_lost(alloc, lost, line.head, &mut symbols, name, line.number)?;
+        let head_here = walk.head();
+        let ended = walk.ended();
+        let lost = has_lost_label(s.shape, ended, name);
+        define_lost(alloc, lost, head_here, &mut symbols, name, line.number)?;
         if suffices(lost, head, part, &symbols) {
-            return Ok(Some((line.number, line_rule(shape))));
+            return Ok(Some((line.number, line_rule(s.shape))));
         }
+        walk.pass(&s);
     }
     Ok(None)
 }

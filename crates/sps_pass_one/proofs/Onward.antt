@@ -7,7 +7,8 @@ use Rattle.sps_expr.specs.Symbol.{SymbolEntry}
 use Rattle.sps_pass_one.specs.declared.place.Place.{Place}
 use Rattle.sps_pass_one.specs.declared.place.Placing.{Placing}
 use Rattle.sps_pass_one.specs.Layout.{State, first, state_before_next, counts_if, placing_if, placing, symbols_if, pass_step, statements, behind, statement_place, place_by_placing, statement_places, symbols_of}
-use Rattle.sps_pass_one.specs.Walk.{WalkText, walk_of, walk_behind}
+use Rattle.sps_pass_one.specs.Walk.{WalkText, walk_of, one_further, walk_past}
+use Rattle.sps_pass_one.proofs.Walking.{Passes}
 
 -- a state by what a walk has
 abbrev pub state : WalkText → ℕ → List SymbolEntry → State
@@ -30,14 +31,14 @@ walk_on done st line lines left source e o =
     record { places = rw append_assoc p; symbols = q }
 
 pub turned : (done new_done : List Place) (w v : WalkText) (at number : ℕ) (head : Option ℕ) (active : Bool) (symbols new_symbols : List SymbolEntry) (line source : List ℕ) (s : StatementText) (p : Placing) →
-    s ≡ statement_of line → number ≡ w.number → head ≡ w.head → active ≡ counts_if w.ended (statement_of line).shape → w.lines ≡ line ∷ v.lines → v ≡ walk_behind w (statement_of line) v.lines →
+    s ≡ statement_of line → number ≡ w.number → head ≡ w.head → active ≡ counts_if w.ended s.shape → Passes w line v →
     p ≡ placing_if active head symbols at s → new_symbols ≡ symbols_if active head symbols (without_outer_blanks s.label) p.label number →
     new_done ≡ done ++ place_by_placing at p ∷ [] →
     Onward done (state w at symbols) w.lines source →
     Onward new_done (state v p.next new_symbols) v.lines source
 unfolding state_before_next placing
-turned done new_done w v at number head active symbols new_symbols line source s p e_s e_number e_head e_active e_lines e_v e_p e_symbols e_done o =
-    rw (e_done, e_symbols, e_p, e_active, e_head, e_number, e_s, e_v) (walk_on done (state w at symbols) line w.lines v.lines source e_lines o)
+turned done new_done w v at number head active symbols new_symbols line source s p e_s e_number e_head e_active passes e_p e_symbols e_done o =
+    rw (e_done, e_symbols, e_p, e_active, e_head, e_number, e_s, passes.behind) (walk_on done (state w at symbols) line w.lines v.lines source passes.front o)
 
 pub begins : (source : List ℕ) → Onward [] (state (walk_of source) 402 []) (walk_of source).lines source
 begins source = record { places = refl; symbols = refl }

@@ -1,10 +1,12 @@
--- One step of a walk: the lines that are left, and what there is behind a statement.
-use Rattle.std.proofs.Common.{◌≡◌, ℕ, zero, suc, ◌+◌, ◌-◌, ◌≤◌, ◌<◌, Bool, Option, List, [], ◌∷◌, length, take, refl, arith}
-use Rattle.outside_io.specs.Lines.{texts_of, first_text, behind_line}
+-- One step of a walk, and one statement that is passed.
+use Rattle.std.proofs.Common.{◌≡◌, ℕ, suc, ◌+◌, ◌-◌, ◌≤◌, ◌<◌, Bool, Option, List, ◌∷◌, length, sym, ap, ◌∙◌, refl, arith}
+use Rattle.outside_io.specs.Lines.{first_text, behind_line}
 use Rattle.outside_io.proofs.WholeLines.{texts_of-front}
-use Rattle.sps_scan.specs.Statement.{StatementText}
-use Rattle.sps_pass_one.specs.Layout.{counts_if, ends_if, head_after}
-use Rattle.sps_pass_one.specs.Walk.{walk_behind, lines_left}
+use Rattle.sps_scan.specs.declared.statement.Shape.{Shape}
+use Rattle.sps_scan.specs.Statement.{StatementText, statement_of}
+use Rattle.sps_pass_one.specs.declared.walk.SourceLine.{SourceLine}
+use Rattle.sps_pass_one.specs.Layout.{counts_if}
+use Rattle.sps_pass_one.specs.Walk.{WalkText, lines_left, one_further, walk_past, ComesTo}
 
 -- a line more
 pub lines_front : (number : ℕ) (rest line behind_it : List ℕ) → number ≤ 20001 → 0 < length rest → line ≡ first_text rest → behind_it ≡ behind_line rest → lines_left number rest ≡ line ∷ lines_left (number + 1) behind_it
@@ -12,12 +14,36 @@ lines_front number rest line behind_it n some e_line e_behind =
     let k : 20002 - number ≡ suc (20002 - (number + 1)) = omega arith in
     rw (e_line, e_behind, k, texts_of-front rest some) refl
 
+-- one line fewer is left
 pub one_less : (lines left : List (List ℕ)) (line : List ℕ) → lines ≡ line ∷ left → length left < length lines
 one_less lines left line e = rw e (omega arith)
 
-pub stands_behind : (number : ℕ) (head new_head : Option ℕ) (ended new_ended active : Bool) (before lines : List (List ℕ)) (s t : StatementText) → s ≡ t → active ≡ counts_if ended s.shape → new_head ≡ head_after head active s → new_ended ≡ ends_if ended active s →
-    record { number = number + 1; head = new_head; ended = new_ended; lines = lines } ≡ walk_behind (record { number = number; head = head; ended = ended; lines = before }) t lines
-stands_behind number head new_head ended new_ended active before lines s t e_s e_active e_head e_ended = rw (e_head, e_ended, e_active, e_s) refl
+-- a walk that came to a line and then passed its statement
+pub record Passes (w : WalkText) (line : List ℕ) (v : WalkText) : Type 0 where
+  pub front : w.lines ≡ line ∷ v.lines
+  pub behind : v ≡ walk_past (one_further w v.lines) (statement_of line)
 
-pub counts_too : (ended active : Bool) (s t : StatementText) → s ≡ t → active ≡ counts_if ended s.shape → active ≡ counts_if ended t.shape
-counts_too ended active s t e_s e_active = rw (← e_s) e_active
+module _ (w n : WalkText) (x : SourceLine) (c : ComesTo w x n) where
+  pub head_stays : (head : Option ℕ) → head ≡ n.head → head ≡ w.head
+  head_stays head e = e ∙ ap (λ (m : WalkText). m.head) c.further
+
+  pub ended_stays : (ended : Bool) → ended ≡ n.ended → ended ≡ w.ended
+  ended_stays ended e = e ∙ ap (λ (m : WalkText). m.ended) c.further
+
+  pub passed : (v : WalkText) (s : StatementText) → s ≡ statement_of x.text.now → v ≡ walk_past n s → Passes w x.text.now v
+  passed v s e_s e_v =
+      let e : v ≡ walk_past (one_further w n.lines) (statement_of x.text.now) = e_v ∙ (ap (λ (m : WalkText). walk_past m s) c.further ∙ ap (λ (t : StatementText). walk_past (one_further w n.lines) t) e_s) in
+      let l : v.lines ≡ n.lines = ap (λ (m : WalkText). m.lines) e in
+      record { front = c.line ∙ ap (λ (ls : List (List ℕ)). x.text.now ∷ ls) (sym l); behind = e ∙ ap (λ (ls : List (List ℕ)). walk_past (one_further w ls) (statement_of x.text.now)) (sym l) }
+
+-- the number of the next line
+pub number_behind : (w v : WalkText) (line : List ℕ) → Passes w line v → v.number ≡ w.number + 1
+number_behind w v line p = ap (λ (m : WalkText). m.number) p.behind
+
+-- whether the statement counts to which a walk came
+pub active_is : (w n : WalkText) (x : SourceLine) → ComesTo w x n → (ended active : Bool) (shape : Shape) → ended ≡ n.ended → active ≡ counts_if ended shape → active ≡ counts_if w.ended shape
+active_is w n x c ended active shape e_ended e_active = rw (← ended_stays w n x c ended e_ended) e_active
+
+-- one line fewer is left
+pub passed_less : (w v : WalkText) (line : List ℕ) → Passes w line v → length v.lines < length w.lines
+passed_less w v line p = one_less w.lines v.lines line p.front

@@ -2,43 +2,41 @@
 -- Source: SPS manual, HEAD and DEND; how many statements there may be is this project's own.
 use Rattle.std.specs.Prelude.{◌≡◌, ℕ, ◌+◌, ◌-◌, Bool, false, List, [], ◌∷◌, take, Option, Some, None}
 use Rattle.outside_io.specs.Lines.{texts_of}
-use Rattle.sps_scan.specs.Statement.{StatementText, statement_of}
+use Rattle.sps_scan.specs.Statement.{StatementText}
 use Rattle.sps_pass_one.specs.declared.walk.SourceLine.{SourceLine}
 use Rattle.sps_pass_one.specs.Layout.{counts_if, ends_if, head_after, most_statements, lines_of_source}
 
--- what there is before the next statement of a walk: its number, the head in force, whether a DEND that counts stands before it, and the
--- lines that are still looked at
+-- a walk: the number of the next line, the head in force, whether a DEND that counts was passed, and the lines that are still looked at
 pub record WalkText : Type 0 where
   pub number : ℕ
   pub head : Option ℕ
   pub ended : Bool
   pub lines : List (List ℕ)
 
--- before the first statement of a source
+-- before the first line of a source
 abbrev pub walk_of : List ℕ → WalkText
 walk_of source = record { number = 1; head = None; ended = false; lines = lines_of_source source }
-
--- behind a statement, where these lines are left
-abbrev pub walk_behind : WalkText → StatementText → List (List ℕ) → WalkText
-walk_behind w s lines = record {
-  number = w.number + 1;
-  head = head_after w.head (counts_if w.ended s.shape) s;
-  ended = ends_if w.ended (counts_if w.ended s.shape) s;
-  lines = lines;
-}
 
 -- of the lines of a rest of a source those that are still looked at, where the first has a number
 abbrev pub lines_left : ℕ → List ℕ → List (List ℕ)
 lines_left number rest = take (most_statements + 2 - number) (texts_of rest)
 
--- a walk came to a line: it is the first of those that were left, it comes with what there was before it, and the walk stands behind it
+-- one line further, where these lines are left
+abbrev pub one_further : WalkText → List (List ℕ) → WalkText
+one_further w lines = record w { number = w.number + 1; lines = lines }
+
+-- past a statement: the head in force, and whether a DEND that counts was passed
+abbrev pub walk_past : WalkText → StatementText → WalkText
+walk_past w s = record w {
+  head = head_after w.head (counts_if w.ended s.shape) s;
+  ended = ends_if w.ended (counts_if w.ended s.shape) s;
+}
+
+-- a walk came to a line: it is the first of those that were left
 pub record ComesTo (old : WalkText) (x : SourceLine) (new : WalkText) : Type 0 where
   pub line : old.lines ≡ x.text.now ∷ new.lines
   pub number : x.number ≡ old.number
-  pub head : x.head ≡ old.head
-  pub ended : x.ended ≡ old.ended
-  pub active : x.active ≡ counts_if old.ended (statement_of x.text.now).shape
-  pub behind : new ≡ walk_behind old (statement_of x.text.now) new.lines
+  pub further : new ≡ one_further old new.lines
 
 -- no line was left, and the walk stays where it is
 pub record IsAtEnd (old new : WalkText) : Type 0 where

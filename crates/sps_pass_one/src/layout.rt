@@ -14,7 +14,7 @@ use crate::walk::Walk;
 use line_words::trimmed;
 use sps_expr::{Scope, Symbols, is_name};
 use sps_ops::{Declarative, Operation, Rule};
-use sps_scan::{Shape, Statement};
+use sps_scan::{Shape, Statement, scan};
 use std::alloc::{AllocError, Global};
 use std::marker::Model;
 
@@ -175,11 +175,9 @@ fn is_head(operation: Option<Operation>) -> bool
     matches!(operation, Some(Operation::Declare(Declarative::Head)))
 }
 
-/// The head in force behind a statement: a HEAD that counts and breaks no rule of its parts says it.
-///
-/// `head` is the one before the statement, and `active` says whether this one counts.
-/// Source: this project's own.
-pub fn head_after(head: Option<u8>, active: bool, s: &Statement<'_>) -> Option<u8>
+// The head in force behind a statement: a HEAD that counts and breaks no rule of its parts says it.
+// `head` is the one before the statement, and `active` says whether this one counts.
+pub(crate) fn head_after(head: Option<u8>, active: bool, s: &Statement<'_>) -> Option<u8>
     ensures { result ≡ head_after head active (statement_text s.now) }
 {
     if active && is_head(operation_of(s)) {
@@ -206,19 +204,24 @@ pub fn locate(alloc: Global, source: &[u8]) -> Result<Located, AllocError>
     let mut places = Vec::new(alloc);
     let mut symbols = Symbols::new(alloc);
     let mut at = 402;
-    for line in Walk::new(source) {
-        let placing = placing_if(line.active, line.head, &symbols, at, &line.statement);
+    let mut walk = Walk::new(source);
+    while let Some(line) = walk.next() {
+        let s = scan(line.text);
+        let head = walk.head();
+        let active = counts_if(walk.ended(), s.shape);
+        let placing = placing_if(active, head, &symbols, at, &s);
         places.push(Place {
             location: at as i64,
             label: placing.label as i64,
             digits: placing.digits,
         })?;
         let label = Label {
-            name: trimmed(line.statement.label),
+            name: trimmed(s.label),
             value: placing.label,
             statement: line.number,
         };
-        define_label(alloc, line.active, line.head, &mut symbols, &label)?;
+        define_label(alloc, active, head, &mut symbols, &label)?;
+        walk.pass(&s);
         at = placing.next;
     }
     Ok(Located {
@@ -293,20 +296,19 @@ fn first_broken(source: &[u8], located: &Located) -> Option<(u32, Rule)>
     ensures { result ≡ first_broken_rule source.now }
 {
     let mut places = located.places.as_slice();
-    for line in Walk::new(source) {
+    let mut walk = Walk::new(source);
+    while let Some(line) = walk.next() {
         let [place, more @ ..] = places else {
             unreachable!()
         };
-        if let Some(fault) = layout_faults(
-            line.head,
-            &located.symbols,
-            *place,
-            line.ended,
-            line.number,
-            &line.statement,
-        ) {
+        let s = scan(line.text);
+        let head = walk.head();
+        let ended = walk.ended();
+        let faults = layout_faults(head, &located.symbols, *place, ended, line.number, &s);
+        if let Some(fault) = faults {
             return Some((line.number, fault.rule));
         }
+        walk.pass(&s);
         places = more;
     }
     None

@@ -2,8 +2,8 @@
 //!
 //! `locate` reads a source once and gives the location, the label's value and the number of digits of each statement, and the symbols.
 //! `lay_out` looks besides for the first statement whose layout is broken; for that it reads the source again, since only then all labels
-//! are known. The second pass asks again for a statement's operands, by `measure`, `answer` and `in_bounds`, and for the least rule that
-//! they break, by `broken_if` and `broken_at_if`.
+//! are known. Both go by a `Walk`, as all do that go over the statements of a source. The second pass asks again for a statement's
+//! operands, by `measure`, `answer` and `in_bounds`, and for the least rule that they break, by `broken_if` and `broken_at_if`.
 #![tactic(auto)]
 
 mod ask;
@@ -21,8 +21,8 @@ pub use fault::{Fault, broken_at_if, broken_if};
 pub use heads::head_faults;
 pub use laws::{known_law, least_law, measure_law};
 pub use layout::{
-    Layout, Located, MOST_STATEMENTS, Places, counts_if, ends_if, head_after, is_label, lay_out,
-    locate, operation_of,
+    Layout, Located, MOST_STATEMENTS, Places, counts_if, ends_if, is_label, lay_out, locate,
+    operation_of,
 };
 pub use operands::{Answered, Measured, answer, in_bounds, is_blank, lacks, measure, part_at};
 pub use place::{Place, Placing};

@@ -1,37 +1,29 @@
 // One walk over the statements of a source.
-ghost use Rattle.std.specs.Prelude.{◌≡◌, ◌≤◌};
-ghost use Rattle.sps_scan.specs.Statement.{statement_text, statement_of};
+ghost use Rattle.std.specs.Prelude.{◌≤◌};
 
 use crate::layout::{MOST_STATEMENTS, counts_if, ends_if, head_after};
 use outside_io::split_line;
-use sps_scan::{Statement, scan};
+use sps_scan::Statement;
 use std::marker::Model;
 
-/// A line of a source, as a walk comes to it: what it is read as, and what there is before it.
+/// A line of a source, as a walk comes to it.
 ///
-/// Source: SPS manual, HEAD and DEND; which statements count is this project's own.
+/// Source: this project's own.
 #[derive(Clone, Copy)]
 pub struct SourceLine<'a> {
-    /// The number of its statement; the first one of a source has 1.
+    /// The number of its statement, 1 to 20,001; the first line of a source has 1.
     pub number: u32,
     /// The line, without its LF and without one CR at its end.
     pub text: &'a [u8],
-    /// The line as a statement.
-    pub statement: Statement<'a>,
-    /// The head in force before it.
-    pub head: Option<u8>,
-    /// Whether a DEND that counts stands before it.
-    pub ended: bool,
-    /// Whether it counts: it is plain, and no DEND stands before it.
-    pub active: bool,
     ghost few: { number ≤ 20001 },
-    ghost is: { statement_text statement ≡ statement_of text.now },
 }
 
-/// A walk over the statements of a source in their order, up to statement 20,001; what stands behind that one isn't looked at.
+/// A walk over the lines of a source in their order, up to statement 20,001; what stands behind that one isn't looked at.
 ///
-/// Contracts see the number of the next statement, the head in force before it, whether a DEND that counts stands before it, and the
-/// lines that are left.
+/// `next` gives a line. Who needs heads, or to know whether a statement counts, tells it by `pass` what the line was read as. The walk
+/// does not read lines itself: a statement is large, and so it isn't handed on.
+///
+/// Contracts see the number of the next line, the head in force, whether a DEND that counts was passed, and the lines that are left.
 /// Source: SPS manual, HEAD and DEND; how many statements are looked at is this project's own.
 #[derive(Drop)]
 pub struct Walk<'a> {
@@ -54,11 +46,13 @@ impl<'a> Model for Walk<'a> {
 
 impl<'a> Walk<'a> {
     ghost use Rattle.std.specs.Prelude.{◌≡◌};
-    ghost use Rattle.sps_pass_one.specs.Walk.{walk_of};
+    ghost use Rattle.sps_scan.specs.Statement.{statement_text};
+    ghost use Rattle.sps_pass_one.specs.Walk.{walk_of, walk_past};
 
-    /// A walk that stands before the first statement of a source; no head is in force there.
+    /// A walk that stands before the first line of a source; no head is in force there.
     ///
-    /// Source: this project's own.
+    /// Source: SPS manual, HEAD.
+    #[inline(always)]
     pub fn new(source: &'a [u8]) -> Walk<'a>
         ensures { result ≡ walk_of source.now }
     {
@@ -70,22 +64,46 @@ impl<'a> Walk<'a> {
         }
     }
 
-    /// The number of the next statement, also where no line is left.
+    /// The number of the next line, also where none is left.
     ///
     /// Source: this project's own.
+    #[inline(always)]
     pub fn number(&self) -> u32
         ensures { result ≡ self.now.number }
     {
         self.number
     }
 
-    /// Whether a DEND that counts stands before the next statement.
+    /// The head in force behind the statements that were passed.
     ///
-    /// Source: this project's own.
+    /// Source: SPS manual, HEAD.
+    #[inline(always)]
+    pub fn head(&self) -> Option<u8>
+        ensures { result ≡ self.now.head }
+    {
+        self.head
+    }
+
+    /// Whether a DEND that counts is one of the statements that were passed.
+    ///
+    /// Source: SPS manual, DEND.
+    #[inline(always)]
     pub fn ended(&self) -> bool
         ensures { result ≡ self.now.ended }
     {
         self.ended
+    }
+
+    /// Passes the statement that the line was read as to which the walk came last.
+    ///
+    /// Source: SPS manual, HEAD and DEND; which statements count is this project's own.
+    #[inline(always)]
+    pub fn pass(&mut self, s: &Statement<'_>)
+        ensures { self.new ≡ walk_past self.old (statement_text s.now) }
+    {
+        let active = counts_if(self.ended, s.shape);
+        self.head = head_after(self.head, active, s);
+        self.ended = ends_if(self.ended, active, s);
     }
 }
 
@@ -100,7 +118,7 @@ impl<'a> Iterator for Walk<'a> {
 
     ghost remaining = { λ w. at_most (length w.lines) };
 
-    /// The next line, with what there is before it; `None` where none is left or statement 20,001 was the last. The walk moves on.
+    /// The next line; `None` where none is left, or statement 20,001 was the last.
     ///
     /// Source: this project's own.
     #[inline(always)]
@@ -109,18 +127,10 @@ impl<'a> Iterator for Walk<'a> {
             return None;
         }
         let (text, behind) = split_line(self.rest)?;
-        let statement = scan(text);
-        let active = counts_if(self.ended, statement.shape);
         let line = SourceLine {
             number: self.number,
             text,
-            statement,
-            head: self.head,
-            ended: self.ended,
-            active,
         };
-        self.head = head_after(self.head, active, &statement);
-        self.ended = ends_if(self.ended, active, &statement);
         self.number += 1;
         self.rest = behind;
         Some(line)

@@ -15,7 +15,7 @@ use Rattle.sps_pass_one.specs.Faults.{least}
 use Rattle.sps_pass_one.specs.declared.ask.Reading.TheVariants.{Expression}
 use Rattle.sps_pass_one.specs.Measure.{answer, in_bounds, lacks, read_as, part_at}
 use Rattle.sps_pass_one.specs.Layout.{first, state_before_next, counts_if, ends_if, head_after, is_end, operation_of, PassStep, pass_step, statements, statements_of, statement_place, statement_places, symbols_of, Refusal}
-use Rattle.sps_pass_one.proofs.Onward.{lines_left}
+use Rattle.sps_pass_one.specs.Walk.{WalkText, walk_of, one_further, walk_past}
 use Rattle.sps_pass_one.proofs.Following.{Follows, place_is, next, next_done, next_state}
 use Rattle.sps_pass_two.specs.Operands.{operand_ask, value_or_0}
 use Rattle.sps_pass_two.specs.Broken.{statement_outcome, end_faults, first_address, refusal_of, statement_and_fault}
@@ -62,13 +62,13 @@ start_on symbols start false head x rest all e headed h = by_bool (counts_if fal
     (λ t. let k = rw (e, t) at h in rw (t, ← headed) k)
     (λ t. let k = rw (e, t) at h in rw t k)
 
-pub record Assembling (symbols : List SymbolEntry) (positions number : ℕ) (is_ended : Bool) (head : Option ℕ) (places : List Place) (rest source : List ℕ) (whole : Option Refusal) (start : ℕ) (placed : List PlacedText) (image : List (Option Digit)) : Type 0 where
-  pub follows : Follows (faults_at symbols positions) (ends_of source) number is_ended head places rest source whole
+pub record Assembling (symbols : List SymbolEntry) (positions : ℕ) (w : WalkText) (places : List Place) (source : List ℕ) (whole : Option Refusal) (start : ℕ) (placed : List PlacedText) (image : List (Option Digit)) : Type 0 where
+  pub follows : Follows (faults_at symbols positions) (ends_of source) w places source whole
   pub placed_are : placed ≡ map (placed_text symbols positions) follows.done
   pub image_is : image ≡ with_fields (replicate positions None) (map (field_of symbols positions) follows.done)
-  pub start_is : StartIs symbols start is_ended (statements follows.st (lines_left number rest)) (statements_of source)
+  pub start_is : StartIs symbols start w.ended (statements follows.st w.lines) (statements_of source)
 
-pub begins : (symbols : List SymbolEntry) (positions : ℕ) (source : List ℕ) (places : List Place) → symbols ≡ symbols_of source → places ≡ statement_places source → Assembling symbols positions 1 (first.ended) (first.head) places source source (refusal_of positions source) 0 [] (replicate positions None)
+pub begins : (symbols : List SymbolEntry) (positions : ℕ) (source : List ℕ) (places : List Place) → symbols ≡ symbols_of source → places ≡ statement_places source → Assembling symbols positions (walk_of source) places source (refusal_of positions source) 0 [] (replicate positions None)
 unfolding with_fields
 begins symbols positions source places e_symbols e = record {
   follows = record { st = first; done = []; number_is = refl; ended_is = refl; head_is = refl; all_is = refl; last_is = refl; places_is = sym e; comes = rw e_symbols refl };
@@ -78,16 +78,16 @@ begins symbols positions source places e_symbols e = record {
 }
 
 -- what the loop has in its hands beside a statement
-module _ (symbols : List SymbolEntry) (positions number : ℕ) (is_ended : Bool) (head : Option ℕ) (places : List Place) (rest source : List ℕ) (whole : Option Refusal) (start : ℕ) (placed : List PlacedText) (image : List (Option Digit)) (g : Assembling symbols positions number is_ended head places rest source whole start placed image) where
-  abbrev f : Follows (faults_at symbols positions) (ends_of source) number is_ended head places rest source whole
+module _ (symbols : List SymbolEntry) (positions : ℕ) (w : WalkText) (places : List Place) (source : List ℕ) (whole : Option Refusal) (start : ℕ) (placed : List PlacedText) (image : List (Option Digit)) (g : Assembling symbols positions w places source whole start placed image) where
+  abbrev f : Follows (faults_at symbols positions) (ends_of source) w places source whole
   f = g.follows
 
-  module _ (line behind_it : List ℕ) (more : lines_left number rest ≡ line ∷ lines_left (number + 1) behind_it) (p : Place) (ps : List Place) (e_places : places ≡ p ∷ ps) (s : StatementText) (e_s : s ≡ statement_of line) where
+  module _ (line : List ℕ) (lines : List (List ℕ)) (more : w.lines ≡ line ∷ lines) (p : Place) (ps : List Place) (e_places : places ≡ p ∷ ps) (s : StatementText) (e_s : s ≡ statement_of line) where
     x : PassStep
     x = pass_step f.st line
 
     e_p : p ≡ statement_place (pass_step f.st line)
-    e_p = place_is (faults_at symbols positions) (ends_of source) number is_ended head places rest source whole f line behind_it more p ps e_places
+    e_p = place_is (faults_at symbols positions) (ends_of source) w places source whole f line lines more p ps e_places
 
     same_placed : (ended : Bool) (n : ℕ) (h : Option ℕ) → f.st.ended ≡ ended → f.st.number ≡ n → f.st.head ≡ h → (digits : List Digit) → digits ≡ (statement_outcome h symbols (statement_place (pass_step f.st line)) ended n (statement_of line) positions).digits →
         record { address = (statement_place (pass_step f.st line)).label; instruction = counts_if ended (statement_of line).shape && is_instruction (operation_of (statement_of line)); digits = digits } ≡ placed_text symbols positions (pass_step f.st line)
@@ -97,41 +97,41 @@ module _ (symbols : List SymbolEntry) (positions number : ℕ) (is_ended : Bool)
         run_with (first_address (operation_of (statement_of line)) (statement_place (pass_step f.st line))) digits ≡ field_of symbols positions (pass_step f.st line)
     same_field ended n h e_ended e_number e_head digits e = rw (e, ← e_ended, ← e_number, ← e_head) refl
 
-    module _ (r : Option Fault) (e_r : r ≡ least None (faults_at symbols positions (pass_step f.st line))) (none : r ≡ None) (active : Bool) (e_active : active ≡ counts_if is_ended s.shape) (digits : List Digit) (e_digits : digits ≡ (statement_outcome head symbols p is_ended number s positions).digits) where
-      pub on : Follows (faults_at symbols positions) (ends_of source) (number + 1) (ends_if is_ended active s) (head_after head active s) ps behind_it source whole
-      on = next (faults_at symbols positions) (ends_of source) number is_ended head places rest source whole f line behind_it more p ps e_places r e_r active s e_s e_active none
+    module _ (r : Option Fault) (e_r : r ≡ least None (faults_at symbols positions (pass_step f.st line))) (none : r ≡ None) (digits : List Digit) (e_digits : digits ≡ (statement_outcome w.head symbols p w.ended w.number s positions).digits) where
+      pub on : Follows (faults_at symbols positions) (ends_of source) (walk_past (one_further w lines) (statement_of line)) ps source whole
+      on = next (faults_at symbols positions) (ends_of source) w places source whole f line lines more p ps e_places r e_r none
 
       done_is : on.done ≡ f.done ++ pass_step f.st line ∷ []
       unfolding on
-      done_is = next_done (faults_at symbols positions) (ends_of source) number is_ended head places rest source whole f line behind_it more p ps e_places r e_r active s e_s e_active none
+      done_is = next_done (faults_at symbols positions) (ends_of source) w places source whole f line lines more p ps e_places r e_r none
 
       state_is : on.st ≡ state_before_next f.st (statement_of line)
       unfolding on
-      state_is = next_state (faults_at symbols positions) (ends_of source) number is_ended head places rest source whole f line behind_it more p ps e_places r e_r active s e_s e_active none
+      state_is = next_state (faults_at symbols positions) (ends_of source) w places source whole f line lines more p ps e_places r e_r none
 
-      digits_here : digits ≡ (statement_outcome head symbols (statement_place (pass_step f.st line)) is_ended number (statement_of line) positions).digits
+      digits_here : digits ≡ (statement_outcome w.head symbols (statement_place (pass_step f.st line)) w.ended w.number (statement_of line) positions).digits
       digits_here = rw (← e_p, ← e_s) e_digits
 
-      pub placed_on : placed ++ record { address = p.label; instruction = active && is_instruction (operation_of s); digits = digits } ∷ [] ≡ map (placed_text symbols positions) on.done
+      pub placed_on : placed ++ record { address = p.label; instruction = counts_if w.ended s.shape && is_instruction (operation_of s); digits = digits } ∷ [] ≡ map (placed_text symbols positions) on.done
       placed_on =
-          let h = same_placed is_ended number head f.ended_is f.number_is f.head_is digits digits_here in
-          ap (λ (ys : List PlacedText). ys ++ record { address = p.label; instruction = active && is_instruction (operation_of s); digits = digits } ∷ []) g.placed_are
-          ∙ rw (done_is, map-append, e_active, e_s, e_p) (ap (λ y. map (placed_text symbols positions) f.done ++ y ∷ []) h)
+          let h = same_placed w.ended w.number w.head f.ended_is f.number_is f.head_is digits digits_here in
+          ap (λ (ys : List PlacedText). ys ++ record { address = p.label; instruction = counts_if w.ended s.shape && is_instruction (operation_of s); digits = digits } ∷ []) g.placed_are
+          ∙ rw (done_is, map-append, e_s, e_p) (ap (λ y. map (placed_text symbols positions) f.done ++ y ∷ []) h)
 
       pub image_on : with_digits image (first_address (operation_of s) p) digits ≡ with_fields (replicate positions None) (map (field_of symbols positions) on.done)
       image_on =
-          let h = same_field is_ended number head f.ended_is f.number_is f.head_is digits digits_here in
+          let h = same_field w.ended w.number w.head f.ended_is f.number_is f.head_is digits digits_here in
           ap (λ (cells : List (Option Digit)). with_digits cells (first_address (operation_of s) p) digits) g.image_is
           ∙ rw (done_is, map-append, e_s, e_p) (ap (λ (y : Run). with_digits (with_fields (replicate positions None) (map (field_of symbols positions) f.done)) y.from y.digits) h ∙ sym (written_last (replicate positions None) (map (field_of symbols positions) f.done) (field_of symbols positions (pass_step f.st line))))
 
-      pub start_is_on : StartIs symbols (if ends_if is_ended active s && not is_ended then start_value head symbols p s else start) (ends_if is_ended active s) (statements on.st (lines_left (number + 1) behind_it)) (statements_of source)
+      pub start_is_on : StartIs symbols (if ends_if w.ended (counts_if w.ended s.shape) s && not w.ended then start_value w.head symbols p s else start) (ends_if w.ended (counts_if w.ended (statement_of line).shape) (statement_of line)) (statements on.st lines) (statements_of source)
       unfolding statements
       start_is_on =
           let h = rw more at g.start_is in
-          let o = start_on symbols start is_ended head (pass_step f.st line) (statements (state_before_next f.st (statement_of line)) (lines_left (number + 1) behind_it)) (statements_of source) f.ended_is f.head_is h in
-          rw (state_is, e_active, e_s, e_p) o
+          let o = start_on symbols start w.ended w.head (pass_step f.st line) (statements (state_before_next f.st (statement_of line)) lines) (statements_of source) f.ended_is f.head_is h in
+          rw (state_is, e_s, e_p) o
 
-      pub goes_on : (new_start : ℕ) → new_start ≡ (if ends_if is_ended active s && not is_ended then start_value head symbols p s else start) → (new_placed : List PlacedText) → new_placed ≡ placed ++ record { address = p.label; instruction = active && is_instruction (operation_of s); digits = digits } ∷ [] → (new_image : List (Option Digit)) → new_image ≡ with_digits image (first_address (operation_of s) p) digits → Assembling symbols positions (number + 1) (ends_if is_ended active s) (head_after head active s) ps behind_it source whole new_start new_placed new_image
+      pub goes_on : (new_start : ℕ) → new_start ≡ (if ends_if w.ended (counts_if w.ended s.shape) s && not w.ended then start_value w.head symbols p s else start) → (new_placed : List PlacedText) → new_placed ≡ placed ++ record { address = p.label; instruction = counts_if w.ended s.shape && is_instruction (operation_of s); digits = digits } ∷ [] → (new_image : List (Option Digit)) → new_image ≡ with_digits image (first_address (operation_of s) p) digits → Assembling symbols positions (walk_past (one_further w lines) (statement_of line)) ps source whole new_start new_placed new_image
       goes_on new_start e_start new_placed e_placed new_image e_image = record {
         follows = on;
         placed_are = e_placed ∙ placed_on;
@@ -140,7 +140,7 @@ module _ (symbols : List SymbolEntry) (positions number : ℕ) (is_ended : Bool)
       }
 
 -- nothing is refused: the start is known, and all statements are placed
-module _ (symbols : List SymbolEntry) (positions number : ℕ) (is_ended : Bool) (head : Option ℕ) (places : List Place) (rest source : List ℕ) (whole : Option Refusal) (start : ℕ) (placed : List PlacedText) (image : List (Option Digit)) (g : Assembling symbols positions number is_ended head places rest source whole start placed image) (last : lines_left number rest ≡ []) where
+module _ (symbols : List SymbolEntry) (positions : ℕ) (w : WalkText) (places : List Place) (source : List ℕ) (whole : Option Refusal) (start : ℕ) (placed : List PlacedText) (image : List (Option Digit)) (g : Assembling symbols positions w places source whole start placed image) (last : w.lines ≡ []) where
   pub all_done : g.follows.done ≡ statements_of source
   unfolding statements
   all_done = sym (append-nil g.follows.done) ∙ rw last at g.follows.all_is
@@ -151,12 +151,12 @@ module _ (symbols : List SymbolEntry) (positions number : ℕ) (is_ended : Bool)
   pub all_fields : image ≡ with_fields (replicate positions None) (map (field_of symbols positions) (statements_of source))
   all_fields = g.image_is ∙ ap (λ (xs : List PassStep). with_fields (replicate positions None) (map (field_of symbols positions) xs)) all_done
 
-  pub start_known : is_ended ≡ true → start ≡ start_in symbols (statements_of source)
-  start_known e = started symbols start (statements g.follows.st (lines_left number rest)) (statements_of source) is_ended e g.start_is
+  pub start_known : w.ended ≡ true → start ≡ start_in symbols (statements_of source)
+  start_known e = started symbols start (statements g.follows.st w.lines) (statements_of source) w.ended e g.start_is
 
 -- the image has a cell for each position
-pub image_size : (symbols : List SymbolEntry) (positions number : ℕ) (is_ended : Bool) (head : Option ℕ) (places : List Place) (rest source : List ℕ) (whole : Option Refusal) (start : ℕ) (placed : List PlacedText) (image : List (Option Digit)) → Assembling symbols positions number is_ended head places rest source whole start placed image → length image ≡ positions
-image_size symbols positions number is_ended head places rest source whole start placed image g =
+pub image_size : (symbols : List SymbolEntry) (positions : ℕ) (w : WalkText) (places : List Place) (source : List ℕ) (whole : Option Refusal) (start : ℕ) (placed : List PlacedText) (image : List (Option Digit)) → Assembling symbols positions w places source whole start placed image → length image ≡ positions
+image_size symbols positions w places source whole start placed image g =
     ap (λ (cells : List (Option Digit)). length cells) g.image_is ∙ (length_all (map (field_of symbols positions) g.follows.done) (replicate positions None) ∙ length_none positions)
 
 -- no refusal at the end: the source has a DEND

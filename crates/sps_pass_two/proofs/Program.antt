@@ -11,7 +11,7 @@ use Rattle.sps_pass_one.specs.Faults.{least}
 use Rattle.sps_pass_one.specs.Laws.{AllKnown}
 use Rattle.sps_pass_one.specs.Layout.{State, first, state_before_next, PassStep, pass_step, statements, statements_of, lines_of_source, statement_place, symbols_of}
 use Rattle.sps_pass_one.proofs.KnownSymbols.{known}
-use Rattle.sps_pass_one.proofs.Onward.{lines_left}
+use Rattle.sps_pass_one.specs.Walk.{WalkText}
 use Rattle.sps_pass_two.specs.Broken.{end_faults, refusal_of}
 use Rattle.sps_pass_two.specs.Image.{cells_from, pieces_from}
 use Rattle.sps_pass_two.specs.Kept.{IsBelow, IsImage, IsProgram, AreKept}
@@ -76,14 +76,14 @@ pub record Finished (positions : ℕ) (source : List ℕ) (start : ℕ) (placed 
   pub start_is : start ≡ start_in (symbols_of source) (statements_of source)
   pub placed_are : placed ≡ map (placed_text (symbols_of source) positions) (statements_of source)
 
-pub finished : (positions number : ℕ) (is_ended : Bool) (head : Option ℕ) (places : List Place) (rest source : List ℕ) (start : ℕ) (placed : List PlacedText) (cells : List (Option Digit)) → Assembling (symbols_of source) positions number is_ended head places rest source (refusal_of positions source) start placed cells → lines_left number rest ≡ [] → (w : Option Fault) → w ≡ least None (end_faults is_ended) → w ≡ None → Finished positions source start placed cells
-finished positions number is_ended head places rest source start placed cells g last w e_w none =
-    let past = past_last (symbols_of source) positions number is_ended head places rest source (refusal_of positions source) g.follows last w e_w in
+pub finished : (positions : ℕ) (w : WalkText) (places : List Place) (source : List ℕ) (start : ℕ) (placed : List PlacedText) (cells : List (Option Digit)) → Assembling (symbols_of source) positions w places source (refusal_of positions source) start placed cells → w.lines ≡ [] → (r : Option Fault) → r ≡ least None (end_faults w.ended) → r ≡ None → Finished positions source start placed cells
+finished positions w places source start placed cells g last r e_r none =
+    let past = past_last (symbols_of source) positions w places source (refusal_of positions source) g.follows last r e_r in
     record {
-      good = whole_none (refusal_of positions source) (ap (option_map (λ (h : Fault). (number, h))) (sym none) ∙ past);
-      cells_are = all_fields (symbols_of source) positions number is_ended head places rest source (refusal_of positions source) start placed cells g last ∙ image_is positions (fields_of positions source);
-      start_is = start_known (symbols_of source) positions number is_ended head places rest source (refusal_of positions source) start placed cells g last (not_refused is_ended w e_w none);
-      placed_are = all_placed (symbols_of source) positions number is_ended head places rest source (refusal_of positions source) start placed cells g last;
+      good = whole_none (refusal_of positions source) (ap (option_map (λ (h : Fault). (w.number, h))) (sym none) ∙ past);
+      cells_are = all_fields (symbols_of source) positions w places source (refusal_of positions source) start placed cells g last ∙ image_is positions (fields_of positions source);
+      start_is = start_known (symbols_of source) positions w places source (refusal_of positions source) start placed cells g last (not_refused w.ended r e_r none);
+      placed_are = all_placed (symbols_of source) positions w places source (refusal_of positions source) start placed cells g last;
     }
 
 pub few_placed : (positions : ℕ) (source : List ℕ) (start : ℕ) (placed : List PlacedText) (cells : List (Option Digit)) → Finished positions source start placed cells → length placed ≤ 20000

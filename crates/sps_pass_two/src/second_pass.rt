@@ -14,6 +14,7 @@ use crate::refuse::end_faults;
 use crate::statement::statement_outcome;
 use crate::task::Task;
 use sps_pass_one::{Walk, locate};
+use sps_scan::scan;
 use std::alloc::{AllocError, Global};
 
 // The image's pieces, the start and the statements of a source that breaks no rule.
@@ -52,13 +53,16 @@ pub fn assemble(alloc: Global, source: &[u8], positions: u32) -> Result<Assemble
         let [place, more @ ..] = places else {
             unreachable!()
         };
+        let s = scan(line.text);
+        let head = walk.head();
+        let ended = walk.ended();
         let size = u64::from(positions);
         let task = Task {
-            statement: &line.statement,
+            statement: &s,
             place: *place,
             number: line.number,
-            ended: line.ended,
-            head: line.head,
+            ended,
+            head,
             symbols: &located.symbols,
             positions: size,
         };
@@ -71,6 +75,7 @@ pub fn assemble(alloc: Global, source: &[u8], positions: u32) -> Result<Assemble
             });
         }
         made.add(&task, outcome.digits)?;
+        walk.pass(&s);
         places = more;
     }
     if let Some(fault) = end_faults(walk.ended()) {

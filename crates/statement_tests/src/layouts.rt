@@ -1,6 +1,7 @@
 // Layouts of short sources, and of one that is too long.
 use sps_ops::Rule;
-use sps_pass_one::{Layout, Places, lay_out, locate};
+use sps_pass_one::{Layout, Places, Walk, counts_if, lay_out, locate};
+use sps_scan::scan;
 use std::alloc::{AllocError, Global};
 
 // What comes of a source.
@@ -311,4 +312,55 @@ fn a_long_source_is_looked_at_up_to_statement_20001(rt: HostRuntime) {
         broken: None,
     };
     assert!(rt; lays_long(rt.alloc(), &want));
+}
+
+// What a walk has at a statement: its number, the head in force, whether a DEND was passed, and whether it counts.
+type Reached = (u32, Option<u8>, bool, bool);
+
+// Whether a walk over a source comes to these statements and no others.
+fn walks(source: &[u8], want: &[Reached]) -> bool {
+    let mut walk = Walk::new(source);
+    for &reached in want {
+        let Some(line) = walk.next() else {
+            return false;
+        };
+        let s = scan(line.text);
+        let counts = counts_if(walk.ended(), s.shape);
+        if (line.number, walk.head(), walk.ended(), counts) != reached {
+            return false;
+        }
+        walk.pass(&s);
+    }
+    walk.next().is_none()
+}
+
+// Whether a walk over the source of such lines comes to these statements.
+fn walks_lines(alloc: Global, lines: &[&str], want: &[Reached]) -> bool {
+    match source_of(alloc, lines) {
+        Ok(source) => walks(source.as_slice(), want),
+        Err(_) => false,
+    }
+}
+
+#[test]
+fn a_walk_has_the_head_and_dend_of_the_statements_before(rt: HostRuntime) {
+    let lines = [
+        "      HEADA",
+        "L     DS  5",
+        "*HEAD",
+        "      HEAD",
+        "      DEND",
+        "      HEADB",
+        "L     DS  5",
+    ];
+    let want = [
+        (1, None, false, true),
+        (2, Some(b'A'), false, true),
+        (3, Some(b'A'), false, false),
+        (4, Some(b'A'), false, true),
+        (5, None, false, true),
+        (6, None, true, false),
+        (7, None, true, false),
+    ];
+    assert!(rt; walks_lines(rt.alloc(), &lines, &want));
 }

@@ -1,15 +1,12 @@
-use Rattle.std.proofs.Common.{◌≤◌, ◌-◌, Option}
+use Rattle.std.proofs.Common.{Option, length}
 use Rattle.sps_pass_one.specs.Layout.{PassStep}
 use Rattle.sps_listing.specs.Others.{lost_step}
 use Rattle.sps_listing.proofs.Ahead.{Ahead}
 use Rattle.sps_listing.proofs.OtherStatements.{lost_in}
 use Rattle.sps_listing.proofs.other_statement.lost_step.Given as goal
 
-abbrev pub invariant-loop-number : goal.invariant-loop-number
-invariant-loop-number l = record {
-  number : l.number ≤ 20002;
-  ahead : Ahead (Option PassStep) (lost_in l.head l.part l.symbols) l.number l.ended l.head_here l.rest (lost_step l.source l.head l.part);
-}
+abbrev pub invariant-loop-line : goal.invariant-loop-line
+invariant-loop-line l = Ahead (Option PassStep) (lost_in l.head l.part l.symbols) l.walk (lost_step l.source l.head l.part)
 
-abbrev pub decreases-loop-number : goal.decreases-loop-number
-decreases-loop-number l = 20002 - l.number
+abbrev pub decreases-loop-line : goal.decreases-loop-line
+decreases-loop-line l = length l.walk.lines
