@@ -1,18 +1,34 @@
 # What bash completes behind ibm1620: its commands, their options, and the values of these; and the options of ibm1620-console.
 
+# How a command is used, or each where none stands behind the program: the program tells it of a word that is no option, and does nothing else. In a
+# folder with the sources that is the program as it was built last, and none is built for this.
+_ibm1620_usage() {
+    local program
+    program=$(readlink -f "$(type -P "${1/#'~'/$HOME}")") || return
+    [[ ! -d ${program%/*}/../crates ]] || program=${program%/*}/../crates/ibm1620/out/ibm1620
+    [[ ! -x $program ]] || "$program" "${@:2}" --help 2>&1 > /dev/null < /dev/null
+}
+
 _ibm1620() {
-    local word=${COMP_WORDS[COMP_CWORD]} before=${COMP_WORDS[COMP_CWORD - 1]} options='' option
-    local machine='--data --keys --script --pack --limit --core --punched --typed --report'
-    local program="--source --object --image --listing --form $machine"
+    local word=${COMP_WORDS[COMP_CWORD]} before=${COMP_WORDS[COMP_CWORD - 1]} commands='' options='' kind='' option value
     COMPREPLY=()
+    # The line of a command begins with its word, and that of an option with the option and what stands for its value.
+    while read -r option value _; do
+        case $option in
+            ibm1620) commands+=" $value" ;;
+            --*)
+                options+=" $option"
+                [[ $option != "$before" ]] || kind=$value
+                ;;
+        esac
+    done < <(_ibm1620_usage "${COMP_WORDS[@]:0:COMP_CWORD > 1 ? 2 : 1}")
     if ((COMP_CWORD == 1)); then
-        mapfile -t COMPREPLY < <(compgen -W 'assemble load run debug generate trial disk' -- "$word")
+        mapfile -t COMPREPLY < <(compgen -W "$commands" -- "$word")
         return
     fi
+    # Where the first word is no command, the usage is that of all.
+    [[ $commands == " ${COMP_WORDS[1]}" ]] || return
     case $before in
-        --limit | --statements | --number)
-            return
-            ;;
         --form)
             mapfile -t COMPREPLY < <(compgen -W 'self dense' -- "$word")
             return
@@ -22,19 +38,11 @@ _ibm1620() {
             return
             ;;
         --*)
+            [[ $kind == FILE ]] || return
             compopt -o filenames
             mapfile -t COMPREPLY < <(compgen -f -- "$word")
             return
             ;;
-    esac
-    case ${COMP_WORDS[1]} in
-        assemble) options='--source --object --image --listing --form --core --report' ;;
-        load) options="--deck $machine" ;;
-        run) options=$program ;;
-        debug) options="--commands $program" ;;
-        generate) options='--statements --number --made --report' ;;
-        trial) options='--statements --number --report' ;;
-        disk) options='--source --pack --object --image --core --report' ;;
     esac
     # Each option is given once.
     for option in "${COMP_WORDS[@]:2:COMP_CWORD-2}"; do
