@@ -6,7 +6,7 @@ ghost use Rattle.outside_io.specs.Mem.{mem_world};
 ghost use Rattle.outside_io.specs.Quiet.{quiet_world};
 
 use crate::texts::{NotTaken, add_bytes, add_line};
-use outside_io::{ALL_SECTORS, MemHost, QuietHost, SECTOR_LENGTH};
+use outside_io::{ALL_SECTORS, MemHost, QuietHost, SECTOR_LENGTH, Unit};
 use std::alloc::{AllocError, Global};
 
 // The characters of a sector.
@@ -15,44 +15,12 @@ pub(crate) type Sector = [u8; SECTOR_LENGTH];
 // A sector on which nothing was written.
 pub(crate) const BLANK: Sector = [b'0'; SECTOR_LENGTH];
 
-// A file that a row may give its job; the row and the words name it alike.
-#[derive(Clone, Copy)]
-pub(crate) enum File {
-    Source,
-    Deck,
-    Data,
-    Keys,
-    Script,
-    Commands,
-    Pack,
-}
-
-impl File {
-    // The file of this name.
-    pub(crate) fn named(name: &str) -> Option<File> {
-        match name {
-            "source" => Some(File::Source),
-            "deck" => Some(File::Deck),
-            "data" => Some(File::Data),
-            "keys" => Some(File::Keys),
-            "script" => Some(File::Script),
-            "commands" => Some(File::Commands),
-            "pack" => Some(File::Pack),
-            _ => None,
-        }
-    }
-}
-
-// The bytes of the files, and the sectors that are written before the job begins.
+// The bytes of the files that a row gives its job, one for each unit that is no output, and the sectors that are written before the job begins.
 #[derive(Drop)]
 pub(crate) struct Files {
-    source: Vec<u8>,
-    deck: Vec<u8>,
-    data: Vec<u8>,
-    keys: Vec<u8>,
-    script: Vec<u8>,
-    commands: Vec<u8>,
-    pack: Vec<u8>,
+    alloc: Global,
+    // The files that have a line.
+    texts: Vec<(Unit, Vec<u8>)>,
     sectors: Vec<(u32, Sector)>,
 }
 
@@ -60,47 +28,59 @@ impl Files {
     // Files without a byte.
     pub(crate) fn new(alloc: Global) -> Files {
         Files {
-            source: Vec::new(alloc),
-            deck: Vec::new(alloc),
-            data: Vec::new(alloc),
-            keys: Vec::new(alloc),
-            script: Vec::new(alloc),
-            commands: Vec::new(alloc),
-            pack: Vec::new(alloc),
+            alloc,
+            texts: Vec::new(alloc),
             sectors: Vec::new(alloc),
         }
     }
 
-    // Adds a line to a file.
-    pub(crate) fn add(&mut self, file: File, line: &str) -> Result<(), NotTaken> {
-        let bytes = match file {
-            File::Source => &mut self.source,
-            File::Deck => &mut self.deck,
-            File::Data => &mut self.data,
-            File::Keys => &mut self.keys,
-            File::Script => &mut self.script,
-            File::Commands => &mut self.commands,
-            File::Pack => &mut self.pack,
-        };
-        add_line(bytes, line)
+    // The bytes of a unit's file.
+    fn bytes(&self, unit: Unit) -> &[u8] {
+        for (known, bytes) in &self.texts {
+            if *known == unit {
+                return bytes;
+            }
+        }
+        &[]
+    }
+
+    // Adds bytes to a unit's file.
+    fn add_bytes(&mut self, unit: Unit, more: &[u8]) -> Result<(), AllocError> {
+        for (known, bytes) in &mut self.texts {
+            if *known == unit {
+                return bytes.extend_from_slice(more);
+            }
+        }
+        let mut bytes = Vec::new(self.alloc);
+        bytes.extend_from_slice(more)?;
+        self.texts.push((unit, bytes))?;
+        Ok(())
+    }
+
+    // Adds a line to a unit's file.
+    pub(crate) fn add(&mut self, unit: Unit, line: &str) -> Result<(), NotTaken> {
+        let mut bytes = Vec::new(self.alloc);
+        add_line(&mut bytes, line)?;
+        self.add_bytes(unit, &bytes)?;
+        Ok(())
     }
 
     // Adds the cards of a deck.
     pub(crate) fn add_deck(&mut self, cards: &[u8]) -> Result<(), AllocError> {
-        self.deck.extend_from_slice(cards)
+        self.add_bytes(Unit::Deck, cards)
     }
 
     // Adds all sectors of a host to the pack's file, up to the last one that is not blank.
     pub(crate) fn add_pack(&mut self, host: &MemHost) -> Result<(), AllocError> {
         for a in 0..sectors_up_to_the_last(host) {
-            self.pack.extend_from_slice(&host.sector(a))?;
+            self.add_bytes(Unit::Pack, &host.sector(a))?;
         }
         Ok(())
     }
 
     // Adds a sector that is written before the job begins; characters that a text has not are zeros.
-    pub(crate) fn add_sector(&mut self, alloc: Global, a: u32, text: &str) -> Result<(), NotTaken> {
-        let mut bytes = Vec::new(alloc);
+    pub(crate) fn add_sector(&mut self, a: u32, text: &str) -> Result<(), NotTaken> {
+        let mut bytes = Vec::new(self.alloc);
         add_bytes(&mut bytes, text)?;
         let n = bytes.len();
         if n > SECTOR_LENGTH {
@@ -115,7 +95,7 @@ impl Files {
     // A sector as the job finds it: that of the pack's file where the pack is bound, else the one that was written before.
     pub(crate) fn sector_before(&self, is_bound: bool, a: u32) -> Sector {
         if is_bound {
-            return sector_in(&self.pack, a);
+            return sector_in(self.bytes(Unit::Pack), a);
         }
         let mut found = BLANK;
         for (written, sector) in &self.sectors {
@@ -127,33 +107,29 @@ impl Files {
     }
 
     // A host in memory with these files and sectors, whose outputs take so many bytes each.
-    pub(crate) fn host(&self, alloc: Global, room: usize) -> Result<MemHost, AllocError>
+    pub(crate) fn host(&self, room: usize) -> Result<MemHost, AllocError>
         ensures { IfOk result (λ host. IsFresh (mem_world host)) }
     {
-        let mut host = MemHost::new(alloc, room)?;
-        host.file("source", &self.source)?;
-        host.file("deck", &self.deck)?;
-        host.file("data", &self.data)?;
-        host.file("keys", &self.keys)?;
-        host.file("script", &self.script)?;
-        host.file("commands", &self.commands)?;
-        host.file("pack", &self.pack)?;
+        let mut host = MemHost::new(self.alloc, room)?;
+        for unit in Unit::ALL {
+            if !unit.is_output() {
+                host.file(unit.word(), self.bytes(unit))?;
+            }
+        }
         write_all(&mut host, &self.sectors);
         Ok(host)
     }
 
     // A quiet host with these files.
-    pub(crate) fn quiet_host(&self, alloc: Global) -> Result<QuietHost, AllocError>
+    pub(crate) fn quiet_host(&self) -> Result<QuietHost, AllocError>
         ensures { IfOk result (λ host. IsFresh (quiet_world host)) }
     {
-        let mut host = QuietHost::new(alloc);
-        host.file("source", &self.source)?;
-        host.file("deck", &self.deck)?;
-        host.file("data", &self.data)?;
-        host.file("keys", &self.keys)?;
-        host.file("script", &self.script)?;
-        host.file("commands", &self.commands)?;
-        host.file("pack", &self.pack)?;
+        let mut host = QuietHost::new(self.alloc);
+        for unit in Unit::ALL {
+            if !unit.is_output() {
+                host.file(unit.word(), self.bytes(unit))?;
+            }
+        }
         Ok(host)
     }
 }

@@ -4,7 +4,7 @@ ghost use Rattle.outside_io.specs.World.{IsFresh};
 ghost use Rattle.outside_io.specs.Mem.{mem_world};
 
 use crate::answers::AnswerPart;
-use crate::files::{File, Files};
+use crate::files::Files;
 use crate::lines::{RowLine, output_named};
 use crate::texts::{NotTaken, add_bytes};
 use finished_job::{Counting, Said, do_job};
@@ -90,8 +90,8 @@ impl Job {
         match RowLine::read(line).ok_or(NotTaken::Unknown)? {
             RowLine::Row(text) => self.row.push_str(text)?,
             RowLine::Words(text) => self.add_words(text)?,
-            RowLine::Text(file, text) => self.files.add(file, text)?,
-            RowLine::Times(times, file, text) => self.add_times(times, file, text)?,
+            RowLine::Text(unit, text) => self.files.add(unit, text)?,
+            RowLine::Times(times, unit, text) => self.add_times(times, unit, text)?,
             RowLine::Object => {
                 let host = self.before.as_ref().ok_or(NotTaken::Unknown)?;
                 self.files.add_deck(host.shown(Unit::Object))?;
@@ -100,7 +100,7 @@ impl Job {
                 let host = self.before.as_ref().ok_or(NotTaken::Unknown)?;
                 self.files.add_pack(host)?;
             }
-            RowLine::Sector(a, text) => self.files.add_sector(self.alloc, a, text)?,
+            RowLine::Sector(a, text) => self.files.add_sector(a, text)?,
             RowLine::Room(room) => self.room = room,
             RowLine::Fail(call) => self.failing = Some(u64::from(call)),
             RowLine::Show(names) => self.shown = Some(outputs_named(self.alloc, names)?),
@@ -127,14 +127,14 @@ impl Job {
     }
 
     // Adds a line to a file so many times, with its number in the place of `####`.
-    fn add_times(&mut self, times: u32, file: File, text: &str) -> Result<(), NotTaken> {
+    fn add_times(&mut self, times: u32, unit: Unit, text: &str) -> Result<(), NotTaken> {
         for number in 0..times {
             match text.split_once("####") {
                 Some((front, rest)) => {
                     let text = format!(in self.alloc; "{front}{number:04}{rest}")?;
-                    self.files.add(file, text.as_str())?;
+                    self.files.add(unit, text.as_str())?;
                 }
-                None => self.files.add(file, text)?,
+                None => self.files.add(unit, text)?,
             }
         }
         Ok(())
@@ -173,7 +173,7 @@ impl Job {
     fn host(&self, failing: Option<u64>) -> Result<MemHost, AllocError>
         ensures { IfOk result (λ host. IsFresh (mem_world host)) }
     {
-        let mut host = self.files.host(self.alloc, self.room as usize)?;
+        let mut host = self.files.host(self.room as usize)?;
         if let Some(call) = failing {
             host.fail(call)?;
         }
@@ -184,7 +184,7 @@ impl Job {
     //
     // The error is want of memory for the host.
     pub(crate) fn done_quietly(&self) -> Result<Answer, AllocError> {
-        let mut host = self.files.quiet_host(self.alloc)?;
+        let mut host = self.files.quiet_host()?;
         Ok(ibm1620_answer(self.alloc, &self.words, &mut host))
     }
 }

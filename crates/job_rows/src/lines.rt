@@ -1,17 +1,5 @@
 // The lines of a row.
-use crate::files::File;
 use outside_io::{ALL_SECTORS, Unit};
-
-// The outputs by their names.
-pub(crate) const OUTPUTS: [(&str, Unit); 7] = [
-    ("object", Unit::Object),
-    ("image", Unit::Image),
-    ("listing", Unit::Listing),
-    ("made", Unit::Made),
-    ("punched", Unit::Punched),
-    ("typed", Unit::Typed),
-    ("report", Unit::Report),
-];
 
 // A line of a row, with its text or number.
 pub(crate) enum RowLine<'a> {
@@ -19,10 +7,10 @@ pub(crate) enum RowLine<'a> {
     Row(&'a str),
     // The words of the command line.
     Words(&'a str),
-    // A line of a file.
-    Text(File, &'a str),
-    // A line of a file, so many times, each with its number.
-    Times(u32, File, &'a str),
+    // A line of the file of a unit.
+    Text(Unit, &'a str),
+    // A line of such a file, so many times, each with its number.
+    Times(u32, Unit, &'a str),
     // The object deck of the row before is the deck.
     Object,
     // The pack's file is what the row before left on its pack.
@@ -67,7 +55,7 @@ impl<'a> RowLine<'a> {
             "sectors" => Some(RowLine::Sectors),
             "quiet" => Some(RowLine::Quiet),
             "turns" => Some(RowLine::Turns),
-            _ => Some(RowLine::Text(File::named(name)?, text)),
+            _ => Some(RowLine::Text(file_named(name)?, text)),
         }
     }
 }
@@ -76,7 +64,7 @@ impl<'a> RowLine<'a> {
 fn times(text: &str) -> Option<RowLine<'_>> {
     let (times, line) = text.split_once('|')?;
     let (name, text) = line.split_once('|')?;
-    Some(RowLine::Times(times.parse().ok()?, File::named(name)?, text))
+    Some(RowLine::Times(times.parse().ok()?, file_named(name)?, text))
 }
 
 // The text of a sector, behind its number.
@@ -90,10 +78,20 @@ fn sector(text: &str) -> Option<RowLine<'_>> {
     }
 }
 
-// The output of this name.
+// The file of this name, that of an input or of the pack; the row and the words name it alike, by its unit's word.
+fn file_named(name: &str) -> Option<Unit> {
+    for unit in Unit::ALL {
+        if !unit.is_output() && unit.word() == name {
+            return Some(unit);
+        }
+    }
+    None
+}
+
+// The output of this name, which is its word.
 pub(crate) fn output_named(name: &str) -> Option<Unit> {
-    for (known, unit) in OUTPUTS {
-        if known == name {
+    for unit in Unit::ALL {
+        if unit.is_output() && unit.word() == name {
             return Some(unit);
         }
     }

@@ -2,7 +2,6 @@
 use crate::answers::{AnswerPart, show_console, show_refusal, show_statement};
 use crate::files::Sector;
 use crate::jobs::{Job, Way};
-use crate::lines::OUTPUTS;
 use crate::texts::show_text;
 use crate::turns::show_turns;
 use ibm1620_cli::Answer;
@@ -52,12 +51,12 @@ fn is_shown(job: &Job, unit: Unit) -> bool {
 
 // Prints what was written to the outputs that the row names.
 fn show_outputs(rt: &impl Print, job: &Job, host: &MemHost) -> io::Result<()> {
-    for (name, unit) in OUTPUTS {
+    for unit in Unit::ALL {
         let text = written(host, unit);
         if job.counted.contains(&unit) {
-            println!(rt; "{name} has|{} bytes", text.len())?;
+            println!(rt; "{} has|{} bytes", unit.word(), text.len())?;
         } else if is_shown(job, unit) {
-            show_text(rt, job.alloc, name, text)?;
+            show_text(rt, job.alloc, unit.word(), text)?;
         }
     }
     Ok(())

@@ -1,6 +1,5 @@
 // Jobs of whose calls one fails: the first, then the second, and so on, until a job makes no call of that number.
 use crate::jobs::Job;
-use crate::lines::OUTPUTS;
 use crate::shown::{show_sector, written};
 use crate::texts::show_text;
 use ibm1620_cli::{Answer, Status};
@@ -11,10 +10,9 @@ use std::io;
 // No job of these makes so many calls.
 const MANY_CALLS: u64 = 1000;
 
-// Where a piece of an output begins: the output, its name, and the bytes in front of the piece.
+// Where a piece of an output begins: the output, and the bytes in front of the piece.
 #[derive(Clone, Copy)]
 struct PieceStart {
-    name: &'static str,
     unit: Unit,
     from: usize,
 }
@@ -33,7 +31,7 @@ impl WrittenPieces {
         match self.place {
             Some(place) => {
                 let text = written(host, place.unit).get(place.from..).unwrap_or(&[]);
-                show_text(rt, self.alloc, place.name, text)
+                show_text(rt, self.alloc, place.unit.word(), text)
             }
             None => Ok(()),
         }
@@ -43,15 +41,18 @@ impl WrittenPieces {
     // wrote has to be a first part, and since a call writes to one output no more than one has more now.
     fn go_on(&mut self, rt: &impl Print, before: &MemHost, after: &MemHost) -> io::Result<()> {
         let mut longer = false;
-        for (name, unit) in OUTPUTS {
+        for unit in Unit::ALL {
             let old = written(before, unit);
             let new = written(after, unit);
             if !new.starts_with(old) || (longer && new.len() > old.len()) {
-                println!(rt; "{name} has|more at once, or not the first part that it had")?;
+                println!(rt;
+                    "{} has|more at once, or not the first part that it had",
+                    unit.word()
+                )?;
             }
             if new.len() > old.len() {
                 longer = true;
-                self.go_on_in(rt, before, name, unit)?;
+                self.go_on_in(rt, before, unit)?;
             }
         }
         if before.bound_name(Unit::Pack).is_some() {
@@ -61,17 +62,11 @@ impl WrittenPieces {
     }
 
     // Goes on in an output: prints the piece before, where that is of another one.
-    fn go_on_in(
-        &mut self,
-        rt: &impl Print,
-        before: &MemHost,
-        name: &'static str,
-        unit: Unit,
-    ) -> io::Result<()> {
+    fn go_on_in(&mut self, rt: &impl Print, before: &MemHost, unit: Unit) -> io::Result<()> {
         if self.place.is_none_or(|place| place.unit != unit) {
             self.show(rt, before)?;
             let from = written(before, unit).len();
-            self.place = Some(PieceStart { name, unit, from });
+            self.place = Some(PieceStart { unit, from });
         }
         Ok(())
     }
