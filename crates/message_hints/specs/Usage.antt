@@ -1,94 +1,30 @@
 -- How the commands are used, as it is told.
 -- Source: this project's own.
-use Rattle.std.specs.Prelude.{ℕ, Option, None, Some, List, ◌++◌, codes}
+use Rattle.std.specs.Prelude.{ℕ, ◌-◌, Option, None, Some, List, [], ◌++◌, codes, length, flat_map}
 use Rattle.command_line.specs.declared.words.Command.{Command}
 use Rattle.command_line.specs.declared.words.Command.TheVariants.{Assemble, Load, Run, Debug, Generate, Trial, Disk}
+use Rattle.message_hints.specs.Commands.{Told, command_word, task, required, others}
+use Rattle.message_hints.specs.Sheet.{blanks}
+
+-- an option with what stands for its value, as it is written behind the word of its command
+abbrev pub option_words : Told → List ℕ
+option_words o = codes " --" ++ (o.word ++ (codes " " ++ o.value))
+
+-- the line of an option: what is said of it stands in column 21, and behind that what is said of all such options
+abbrev pub option_line : List ℕ → Told → List ℕ
+option_line ending o =
+    codes "    --" ++ (o.word ++ (codes " " ++ (o.value
+    ++ (blanks (13 - length o.word - length o.value) ++ (o.said ++ (ending ++ codes "\n"))))))
 
 -- HOW A COMMAND IS USED: its word with the options that it needs, what it does, and a line for each option
 unfoldable pub command_usage : Command → List ℕ
-command_usage Assemble =
-    codes "\nibm1620 assemble --source FILE [OPTION VALUE]..\n"
-    ++ codes "  Assembles a source.\n"
-    ++ codes "    --source FILE   the source (required)\n"
-    ++ codes "    --object FILE   gets the object deck; without it the deck is dropped\n"
-    ++ codes "    --image FILE    gets the image; without it the image is dropped\n"
-    ++ codes "    --listing FILE  gets the listing; without it the listing is dropped\n"
-    ++ codes "    --form FORM     the form of the object deck, self or dense; self without it\n"
-    ++ codes "    --core N        core's positions: 20000, 40000 or 60000; 20000 without it\n"
-    ++ codes "    --report FILE   gets the report line\n"
-command_usage Load =
-    codes "\nibm1620 load --deck FILE [OPTION VALUE]..\n"
-    ++ codes "  Loads a deck by the Load key and runs the machine.\n"
-    ++ codes "    --deck FILE     the cards of the deck (required)\n"
-    ++ codes "    --data FILE     the cards behind the deck\n"
-    ++ codes "    --keys FILE     the lines of the keyboard\n"
-    ++ codes "    --script FILE   the operator's script; without it the operator does nothing\n"
-    ++ codes "    --pack FILE     the disk's pack, read and written; made if it is not there\n"
-    ++ codes "    --limit N       the greatest number of steps; 1000000 without it\n"
-    ++ codes "    --core N        core's positions: 20000, 40000 or 60000; 20000 without it\n"
-    ++ codes "    --punched FILE  gets the punched cards; without it they are dropped\n"
-    ++ codes "    --typed FILE    gets what the machine types\n"
-    ++ codes "    --report FILE   gets the report line\n"
-command_usage Run =
-    codes "\nibm1620 run --source FILE [OPTION VALUE]..\n"
-    ++ codes "  Assembles a source, loads its object deck and runs the program.\n"
-    ++ codes "    --source FILE   the source (required)\n"
-    ++ codes "    --object FILE   gets the object deck; without it the deck is dropped\n"
-    ++ codes "    --image FILE    gets the image; without it the image is dropped\n"
-    ++ codes "    --listing FILE  gets the listing; without it the listing is dropped\n"
-    ++ codes "    --form FORM     the form of the object deck, self or dense; self without it\n"
-    ++ codes "    --core N        core's positions: 20000, 40000 or 60000; 20000 without it\n"
-    ++ codes "    --data FILE     the cards behind the deck\n"
-    ++ codes "    --limit N       the most steps of the program; 1000000 without it\n"
-    ++ codes "    --keys FILE     the lines of the keyboard\n"
-    ++ codes "    --script FILE   the operator's script; without it the operator does nothing\n"
-    ++ codes "    --pack FILE     the disk's pack, read and written; made if it is not there\n"
-    ++ codes "    --punched FILE  gets the punched cards; without it they are dropped\n"
-    ++ codes "    --typed FILE    gets what the machine types\n"
-    ++ codes "    --report FILE   gets the report line\n"
-command_usage Debug =
-    codes "\nibm1620 debug --source FILE --commands FILE [OPTION VALUE]..\n"
-    ++ codes "  Assembles a source, presses the Load key over its object deck, and carries\n"
-    ++ codes "  out the debugger's commands: GO, STEP n, BACK n, BREAK s, CLEAR s, SHOW a n,\n"
-    ++ codes "  QUIT.\n"
-    ++ codes "    --source FILE   the source (required)\n"
-    ++ codes "    --commands FILE the debugger's commands, one on a line (required)\n"
-    ++ codes "    --object FILE   gets the object deck; without it the deck is dropped\n"
-    ++ codes "    --image FILE    gets the image; without it the image is dropped\n"
-    ++ codes "    --listing FILE  gets the listing; without it the listing is dropped\n"
-    ++ codes "    --form FORM     the form of the object deck, self or dense; self without it\n"
-    ++ codes "    --core N        core's positions: 20000, 40000 or 60000; 20000 without it\n"
-    ++ codes "    --data FILE     the cards behind the deck\n"
-    ++ codes "    --limit N       the greatest number of steps, those of the deck included\n"
-    ++ codes "    --keys FILE     the lines of the keyboard\n"
-    ++ codes "    --script FILE   the operator's script; without it the operator does nothing\n"
-    ++ codes "    --pack FILE     the disk's pack, read and written; made if it is not there\n"
-    ++ codes "    --punched FILE  gets the punched cards; without it they are dropped\n"
-    ++ codes "    --typed FILE    gets what the machine types\n"
-    ++ codes "    --report FILE   gets what the commands print, and the report line\n"
-command_usage Generate =
-    codes "\nibm1620 generate --statements N --number K [OPTION VALUE]..\n"
-    ++ codes "  Makes a source for trials: the same one for the same numbers.\n"
-    ++ codes "    --statements N  how many statements, 8 to 1600 (required)\n"
-    ++ codes "    --number K      what it is made by, 0 to 999999 (required)\n"
-    ++ codes "    --made FILE     gets the source; without it the source is dropped\n"
-    ++ codes "    --report FILE   gets the report line\n"
-command_usage Trial =
-    codes "\nibm1620 trial --statements N --number K [OPTION VALUE]..\n"
-    ++ codes "  Makes such a source, assembles it, loads its object deck and runs it.\n"
-    ++ codes "    --statements N  how many statements, 8 to 1600 (required)\n"
-    ++ codes "    --number K      what it is made by, 0 to 999999 (required)\n"
-    ++ codes "    --report FILE   gets the report line\n"
-command_usage Disk =
-    codes "\nibm1620 disk --source FILE --pack FILE [OPTION VALUE]..\n"
-    ++ codes "  Assembles a source, writes its image to the pack, and punches the deck that\n"
-    ++ codes "  loads it from there: load --deck DECK --pack FILE runs it.\n"
-    ++ codes "    --source FILE   the source (required)\n"
-    ++ codes "    --pack FILE     takes the sectors; made if it is not there (required)\n"
-    ++ codes "    --object FILE   gets the bootstrap deck; without it the deck is dropped\n"
-    ++ codes "    --image FILE    gets the image; without it the image is dropped\n"
-    ++ codes "    --core N        core's positions: 20000, 40000 or 60000; 20000 without it\n"
-    ++ codes "    --report FILE   gets the report line\n"
+command_usage command =
+    codes "\nibm1620 " ++ (command_word command
+    ++ (flat_map option_words (required command)
+    ++ (codes " [OPTION VALUE]..\n  "
+    ++ (task command
+    ++ (codes "\n"
+    ++ (flat_map (option_line (codes " (required)")) (required command) ++ flat_map (option_line []) (others command)))))))
 
 -- how those behind `run` are used
 unfoldable pub others_usage : List ℕ

@@ -1,6 +1,6 @@
-// The commands: their words, their options, and what value an option takes.
-ghost use Rattle.std.specs.Prelude.{◌≡◌};
-ghost use Rattle.message_hints.specs.Commands.{command_word};
+// The commands: their words, their options, and what value an option takes. What is said of options stands here alone.
+ghost use Rattle.std.specs.Prelude.{◌≡◌, map};
+ghost use Rattle.message_hints.specs.Commands.{command_word, others, required, task, told};
 
 use command_line::{COMMANDS, Command};
 
@@ -21,188 +21,177 @@ pub(crate) enum Kind {
     Core,
 }
 
-// An option: its word behind the two hyphens, what stands for its value, and what that has to be.
-#[derive(Clone, Copy)]
-pub(crate) struct Setting {
-    pub(crate) word: &'static str,
-    pub(crate) value: &'static str,
-    pub(crate) kind: Kind,
-}
+// An option of a command: its word behind the two hyphens, what stands for its value, what is said of it, and what its value has to be.
+pub(crate) type OptionRow = (&'static str, &'static str, &'static str, Kind);
 
-const SOURCE: Setting = Setting {
-    word: "source",
-    value: "FILE",
-    kind: Kind::Input,
-};
+const SOURCE: OptionRow = ("source", "FILE", "the source", Kind::Input);
 
-const OBJECT: Setting = Setting {
-    word: "object",
-    value: "FILE",
-    kind: Kind::Output,
-};
+const COMMANDS_FILE: OptionRow = (
+    "commands",
+    "FILE",
+    "the debugger's commands, one on a line",
+    Kind::Input,
+);
 
-const BOOTSTRAP: Setting = Setting {
-    word: "object",
-    value: "FILE",
-    kind: Kind::Output,
-};
+const DECK: OptionRow = ("deck", "FILE", "the cards of the deck", Kind::Input);
 
-const IMAGE: Setting = Setting {
-    word: "image",
-    value: "FILE",
-    kind: Kind::Output,
-};
+const DATA: OptionRow = ("data", "FILE", "the cards behind the deck", Kind::Input);
 
-const LISTING: Setting = Setting {
-    word: "listing",
-    value: "FILE",
-    kind: Kind::Output,
-};
+const KEYS: OptionRow = ("keys", "FILE", "the lines of the keyboard", Kind::Input);
 
-const FORM: Setting = Setting {
-    word: "form",
-    value: "FORM",
-    kind: Kind::Form,
-};
+const SCRIPT: OptionRow = (
+    "script",
+    "FILE",
+    "the operator's script; without it the operator does nothing",
+    Kind::Input,
+);
 
-const CORE: Setting = Setting {
-    word: "core",
-    value: "N",
-    kind: Kind::Core,
-};
+const PACK: OptionRow = (
+    "pack",
+    "FILE",
+    "the disk's pack, read and written; made if it is not there",
+    Kind::Pack,
+);
 
-const REPORT: Setting = Setting {
-    word: "report",
-    value: "FILE",
-    kind: Kind::Output,
-};
+const PLACED_PACK: OptionRow = (
+    "pack",
+    "FILE",
+    "takes the sectors; made if it is not there",
+    Kind::Pack,
+);
 
-const SESSION_REPORT: Setting = Setting {
-    word: "report",
-    value: "FILE",
-    kind: Kind::Output,
-};
+const OBJECT: OptionRow = (
+    "object",
+    "FILE",
+    "gets the object deck; without it the deck is dropped",
+    Kind::Output,
+);
 
-const DECK: Setting = Setting {
-    word: "deck",
-    value: "FILE",
-    kind: Kind::Input,
-};
+const BOOTSTRAP: OptionRow = (
+    "object",
+    "FILE",
+    "gets the bootstrap deck; without it the deck is dropped",
+    Kind::Output,
+);
 
-const DATA: Setting = Setting {
-    word: "data",
-    value: "FILE",
-    kind: Kind::Input,
-};
+const IMAGE: OptionRow = (
+    "image",
+    "FILE",
+    "gets the image; without it the image is dropped",
+    Kind::Output,
+);
 
-const KEYS: Setting = Setting {
-    word: "keys",
-    value: "FILE",
-    kind: Kind::Input,
-};
+const LISTING: OptionRow = (
+    "listing",
+    "FILE",
+    "gets the listing; without it the listing is dropped",
+    Kind::Output,
+);
 
-const SCRIPT: Setting = Setting {
-    word: "script",
-    value: "FILE",
-    kind: Kind::Input,
-};
+const PUNCHED: OptionRow = (
+    "punched",
+    "FILE",
+    "gets the punched cards; without it they are dropped",
+    Kind::Output,
+);
 
-const PACK: Setting = Setting {
-    word: "pack",
-    value: "FILE",
-    kind: Kind::Pack,
-};
+const TYPED: OptionRow = ("typed", "FILE", "gets what the machine types", Kind::Output);
 
-const PLACED_PACK: Setting = Setting {
-    word: "pack",
-    value: "FILE",
-    kind: Kind::Pack,
-};
+const MADE: OptionRow = (
+    "made",
+    "FILE",
+    "gets the source; without it the source is dropped",
+    Kind::Output,
+);
 
-const PUNCHED: Setting = Setting {
-    word: "punched",
-    value: "FILE",
-    kind: Kind::Output,
-};
+const REPORT: OptionRow = ("report", "FILE", "gets the report line", Kind::Output);
 
-const TYPED: Setting = Setting {
-    word: "typed",
-    value: "FILE",
-    kind: Kind::Output,
-};
-
-const COMMANDS_FILE: Setting = Setting {
-    word: "commands",
-    value: "FILE",
-    kind: Kind::Input,
-};
-
-const MADE: Setting = Setting {
-    word: "made",
-    value: "FILE",
-    kind: Kind::Output,
-};
+const SESSION_REPORT: OptionRow = (
+    "report",
+    "FILE",
+    "gets what the commands print, and the report line",
+    Kind::Output,
+);
 
 const ANY_LIMIT: Kind = Kind::Number {
     least: 0,
     most: 999_999_999_999_999,
 };
 
-const LIMIT: Setting = Setting {
-    word: "limit",
-    value: "N",
-    kind: ANY_LIMIT,
-};
+const LIMIT: OptionRow = (
+    "limit",
+    "N",
+    "the greatest number of steps; 1000000 without it",
+    ANY_LIMIT,
+);
 
-const PROGRAM_LIMIT: Setting = Setting {
-    word: "limit",
-    value: "N",
-    kind: ANY_LIMIT,
-};
+const PROGRAM_LIMIT: OptionRow = (
+    "limit",
+    "N",
+    "the most steps of the program; 1000000 without it",
+    ANY_LIMIT,
+);
 
-const SESSION_LIMIT: Setting = Setting {
-    word: "limit",
-    value: "N",
-    kind: ANY_LIMIT,
-};
+const SESSION_LIMIT: OptionRow = (
+    "limit",
+    "N",
+    "the greatest number of steps, those of the deck included",
+    ANY_LIMIT,
+);
 
-const STATEMENTS: Setting = Setting {
-    word: "statements",
-    value: "N",
-    kind: Kind::Number {
+const CORE: OptionRow = (
+    "core",
+    "N",
+    "core's positions: 20000, 40000 or 60000; 20000 without it",
+    Kind::Core,
+);
+
+const FORM: OptionRow = (
+    "form",
+    "FORM",
+    "the form of the object deck, self or dense; self without it",
+    Kind::Form,
+);
+
+const STATEMENTS: OptionRow = (
+    "statements",
+    "N",
+    "how many statements, 8 to 1600",
+    Kind::Number {
         least: 8,
         most: 1_600,
     },
-};
+);
 
-const NUMBER: Setting = Setting {
-    word: "number",
-    value: "K",
-    kind: Kind::Number {
+const NUMBER: OptionRow = (
+    "number",
+    "K",
+    "what it is made by, 0 to 999999",
+    Kind::Number {
         least: 0,
         most: 999_999,
     },
-};
+);
 
 // What each command has to be given.
-const A_SOURCE: [Setting; 1] = [SOURCE];
+static A_SOURCE: [OptionRow; 1] = [SOURCE];
 
-const A_DECK: [Setting; 1] = [DECK];
+static A_DECK: [OptionRow; 1] = [DECK];
 
-const SOURCE_AND_COMMANDS: [Setting; 2] = [SOURCE, COMMANDS_FILE];
+static SOURCE_AND_COMMANDS: [OptionRow; 2] = [SOURCE, COMMANDS_FILE];
 
-const BOTH_NUMBERS: [Setting; 2] = [STATEMENTS, NUMBER];
+static BOTH_NUMBERS: [OptionRow; 2] = [STATEMENTS, NUMBER];
 
-const SOURCE_AND_PACK: [Setting; 2] = [SOURCE, PLACED_PACK];
+static SOURCE_AND_PACK: [OptionRow; 2] = [SOURCE, PLACED_PACK];
 
 // What each command may be given besides.
-const FOR_ASSEMBLE: [Setting; 6] = [OBJECT, IMAGE, LISTING, FORM, CORE, REPORT];
+static FOR_ASSEMBLE: [OptionRow; 6] = [OBJECT, IMAGE, LISTING, FORM, CORE, REPORT];
 
-const FOR_LOAD: [Setting; 9] = [
+static FOR_LOAD: [OptionRow; 9] = [
     DATA, KEYS, SCRIPT, PACK, LIMIT, CORE, PUNCHED, TYPED, REPORT,
 ];
 
-const FOR_RUN: [Setting; 13] = [
+static FOR_RUN: [OptionRow; 13] = [
     OBJECT,
     IMAGE,
     LISTING,
@@ -218,7 +207,7 @@ const FOR_RUN: [Setting; 13] = [
     REPORT,
 ];
 
-const FOR_DEBUG: [Setting; 13] = [
+static FOR_DEBUG: [OptionRow; 13] = [
     OBJECT,
     IMAGE,
     LISTING,
@@ -234,11 +223,48 @@ const FOR_DEBUG: [Setting; 13] = [
     SESSION_REPORT,
 ];
 
-const FOR_GENERATE: [Setting; 2] = [MADE, REPORT];
+static FOR_GENERATE: [OptionRow; 2] = [MADE, REPORT];
 
-const FOR_TRIAL: [Setting; 1] = [REPORT];
+static FOR_TRIAL: [OptionRow; 1] = [REPORT];
 
-const FOR_DISK: [Setting; 4] = [BOOTSTRAP, IMAGE, CORE, REPORT];
+static FOR_DISK: [OptionRow; 4] = [BOOTSTRAP, IMAGE, CORE, REPORT];
+
+// What each command does.
+const ASSEMBLES: &str = "Assembles a source.";
+
+const LOADS: &str = "Loads a deck by the Load key and runs the machine.";
+
+const RUNS: &str = "Assembles a source, loads its object deck and runs the program.";
+
+const DEBUGS: &str = "Assembles a source, presses the Load key over its object deck, and carries
+  out the debugger's commands: GO, STEP n, BACK n, BREAK s, CLEAR s, SHOW a n,
+  QUIT.";
+
+const GENERATES: &str = "Makes a source for trials: the same one for the same numbers.";
+
+const TRIES: &str = "Makes such a source, assembles it, loads its object deck and runs it.";
+
+const PLACES: &str = "Assembles a source, writes its image to the pack, and punches the deck that
+  loads it from there: load --deck DECK --pack FILE runs it.";
+
+// An option, as it is told what is wrong with it: its word, what stands for its value, and what that has to be.
+#[derive(Clone, Copy)]
+pub(crate) struct Setting {
+    pub(crate) word: &'static str,
+    pub(crate) value: &'static str,
+    pub(crate) kind: Kind,
+}
+
+impl Setting {
+    // The option of a row.
+    pub(crate) fn of(row: &OptionRow) -> Setting {
+        Setting {
+            word: row.0,
+            value: row.1,
+            kind: row.3,
+        }
+    }
+}
 
 // The word of a command.
 pub(crate) fn word_of(command: Command) -> &'static str
@@ -255,8 +281,25 @@ pub(crate) fn word_of(command: Command) -> &'static str
     }
 }
 
+// What a command does.
+pub(crate) fn task_of(command: Command) -> &'static str
+    ensures { result.now ≡ task command }
+{
+    match command {
+        Command::Assemble => ASSEMBLES,
+        Command::Load => LOADS,
+        Command::Run => RUNS,
+        Command::Debug => DEBUGS,
+        Command::Generate => GENERATES,
+        Command::Trial => TRIES,
+        Command::Disk => PLACES,
+    }
+}
+
 // What a command has to be given.
-pub(crate) fn required(command: Command) -> &'static [Setting] {
+pub(crate) fn required(command: Command) -> &'static [OptionRow]
+    ensures { map (λ r. told r.0.now r.1.now r.2.now) result.now ≡ required command }
+{
     match command {
         Command::Assemble | Command::Run => &A_SOURCE,
         Command::Load => &A_DECK,
@@ -267,7 +310,9 @@ pub(crate) fn required(command: Command) -> &'static [Setting] {
 }
 
 // What a command may be given besides.
-pub(crate) fn others(command: Command) -> &'static [Setting] {
+pub(crate) fn others(command: Command) -> &'static [OptionRow]
+    ensures { map (λ r. told r.0.now r.1.now r.2.now) result.now ≡ others command }
+{
     match command {
         Command::Assemble => &FOR_ASSEMBLE,
         Command::Load => &FOR_LOAD,
@@ -280,10 +325,10 @@ pub(crate) fn others(command: Command) -> &'static [Setting] {
 }
 
 // The option of this word among some.
-fn setting_among(settings: &'static [Setting], word: &str) -> Option<Setting> {
-    for setting in settings {
-        if setting.word == word {
-            return Some(*setting);
+fn setting_among(rows: &'static [OptionRow], word: &str) -> Option<Setting> {
+    for row in rows {
+        if row.0 == word {
+            return Some(Setting::of(row));
         }
     }
     None

@@ -104,7 +104,7 @@ fn without_hyphens(command: Command, option: &str) -> Wrong {
 // A word where an option is wanted is often the name of a file, of the first option that the command needs.
 fn no_hyphens(command: Command) -> Wrong {
     match required(command).first() {
-        Some(setting) => Wrong::NoHyphens(*setting),
+        Some(row) => Wrong::NoHyphens(Setting::of(row)),
         None => Wrong::NoOption,
     }
 }
@@ -157,9 +157,10 @@ fn unfit(setting: Setting, value: &str) -> Option<Wrong> {
 
 // The first option that the command needs and the words have not.
 fn missing(command: Command, words: &[String]) -> Option<Setting> {
-    for setting in required(command) {
-        if !is_there(words, *setting) {
-            return Some(*setting);
+    for row in required(command) {
+        let setting = Setting::of(row);
+        if !is_there(words, setting) {
+            return Some(setting);
         }
     }
     None

@@ -1,7 +1,10 @@
 // How the commands are used, as it is shown where the words are not plain.
-ghost use Rattle.std.specs.Prelude.{◌≡◌, Some};
-ghost use Rattle.message_hints.specs.Usage.{command_usage, commands_usage, others_usage, usage_of, usage_text};
+ghost use Rattle.std.specs.Prelude.{Some, flat_map, map};
+ghost use Rattle.message_hints.specs.Commands.{told};
+ghost use Rattle.message_hints.specs.Usage.{command_usage, commands_usage, option_line, option_words, others_usage, usage_of, usage_text};
 
+use crate::commands::{OptionRow, others, required, task_of, word_of};
+use crate::runs::Blanks;
 use command_line::Command;
 use std::fmt;
 
@@ -32,7 +35,10 @@ impl fmt::Display for UsageOf {
     #[tactic(auto, unfolding(crate::specs::Usage::usage_of))]
     fn fmt<W: fmt::Write>(&self, f: &mut fmt::Formatter<W>) -> fmt::Result {
         match self.0 {
-            Some(command) => f.write_str(command_usage(command)),
+            Some(command) => {
+                let usage = CommandUsage(command);
+                write!(f, "{usage}")
+            }
             None => {
                 let usage = CommandsUsage;
                 write!(f, "{usage}")
@@ -50,11 +56,11 @@ impl fmt::Display for CommandsUsage {
 
     #[tactic(auto, unfolding(crate::specs::Usage::commands_usage))]
     fn fmt<W: fmt::Write>(&self, f: &mut fmt::Formatter<W>) -> fmt::Result {
-        f.write_str(command_usage(Command::Assemble))?;
-        f.write_str(command_usage(Command::Load))?;
-        f.write_str(command_usage(Command::Run))?;
+        let assemble = CommandUsage(Command::Assemble);
+        let load = CommandUsage(Command::Load);
+        let run = CommandUsage(Command::Run);
         let others = OthersUsage;
-        write!(f, "{others}")
+        write!(f, "{assemble}{load}{run}{others}")
     }
 }
 
@@ -67,125 +73,89 @@ impl fmt::Display for OthersUsage {
 
     #[tactic(auto, unfolding(crate::specs::Usage::others_usage))]
     fn fmt<W: fmt::Write>(&self, f: &mut fmt::Formatter<W>) -> fmt::Result {
-        f.write_str(command_usage(Command::Debug))?;
-        f.write_str(command_usage(Command::Generate))?;
-        f.write_str(command_usage(Command::Trial))?;
-        f.write_str(command_usage(Command::Disk))
+        let debug = CommandUsage(Command::Debug);
+        let generate = CommandUsage(Command::Generate);
+        let trial = CommandUsage(Command::Trial);
+        let disk = CommandUsage(Command::Disk);
+        write!(f, "{debug}{generate}{trial}{disk}")
     }
 }
 
 // How a command is used: its word with the options that it needs, what it does, and a line for each option.
-#[tactic(auto, unfolding(crate::specs::Usage::command_usage))]
-fn command_usage(command: Command) -> &'static str
-    ensures { result.now ≡ command_usage command }
-{
-    match command {
-        Command::Assemble => ASSEMBLE,
-        Command::Load => LOAD,
-        Command::Run => RUN,
-        Command::Debug => DEBUG,
-        Command::Generate => GENERATE,
-        Command::Trial => TRIAL,
-        Command::Disk => DISK,
+#[derive(Clone, Copy)]
+struct CommandUsage(Command);
+
+impl fmt::Display for CommandUsage {
+    ghost output = { λ usage. Some (command_usage usage.0) };
+
+    #[tactic(auto, unfolding(crate::specs::Usage::command_usage))]
+    fn fmt<W: fmt::Write>(&self, f: &mut fmt::Formatter<W>) -> fmt::Result {
+        let word = word_of(self.0);
+        let task = task_of(self.0);
+        let needed = required(self.0);
+        let more = others(self.0);
+        let options = OptionWords(needed);
+        let required = OptionLines(needed, " (required)");
+        let others = OptionLines(more, "");
+        write!(
+            f,
+            "\nibm1620 {word}{options} [OPTION VALUE]..\n  {task}\n{required}{others}"
+        )
     }
 }
 
-const ASSEMBLE: &str = "
-ibm1620 assemble --source FILE [OPTION VALUE]..
-  Assembles a source.
-    --source FILE   the source (required)
-    --object FILE   gets the object deck; without it the deck is dropped
-    --image FILE    gets the image; without it the image is dropped
-    --listing FILE  gets the listing; without it the listing is dropped
-    --form FORM     the form of the object deck, self or dense; self without it
-    --core N        core's positions: 20000, 40000 or 60000; 20000 without it
-    --report FILE   gets the report line
-";
+// Options with what stands for their values, as they are written behind the word of their command.
+#[derive(Clone, Copy)]
+struct OptionWords(&'static [OptionRow]);
 
-const LOAD: &str = "
-ibm1620 load --deck FILE [OPTION VALUE]..
-  Loads a deck by the Load key and runs the machine.
-    --deck FILE     the cards of the deck (required)
-    --data FILE     the cards behind the deck
-    --keys FILE     the lines of the keyboard
-    --script FILE   the operator's script; without it the operator does nothing
-    --pack FILE     the disk's pack, read and written; made if it is not there
-    --limit N       the greatest number of steps; 1000000 without it
-    --core N        core's positions: 20000, 40000 or 60000; 20000 without it
-    --punched FILE  gets the punched cards; without it they are dropped
-    --typed FILE    gets what the machine types
-    --report FILE   gets the report line
-";
+impl fmt::Display for OptionWords {
+    ghost output = { λ rows. Some (flat_map option_words (map (λ r. told r.0.now r.1.now r.2.now) rows.0.now)) };
 
-const RUN: &str = "
-ibm1620 run --source FILE [OPTION VALUE]..
-  Assembles a source, loads its object deck and runs the program.
-    --source FILE   the source (required)
-    --object FILE   gets the object deck; without it the deck is dropped
-    --image FILE    gets the image; without it the image is dropped
-    --listing FILE  gets the listing; without it the listing is dropped
-    --form FORM     the form of the object deck, self or dense; self without it
-    --core N        core's positions: 20000, 40000 or 60000; 20000 without it
-    --data FILE     the cards behind the deck
-    --limit N       the most steps of the program; 1000000 without it
-    --keys FILE     the lines of the keyboard
-    --script FILE   the operator's script; without it the operator does nothing
-    --pack FILE     the disk's pack, read and written; made if it is not there
-    --punched FILE  gets the punched cards; without it they are dropped
-    --typed FILE    gets what the machine types
-    --report FILE   gets the report line
-";
+    fn fmt<W: fmt::Write>(&self, f: &mut fmt::Formatter<W>) -> fmt::Result {
+        for row in self.0 {
+            let word = row.0;
+            let value = row.1;
+            write!(f, " --{word} {value}")?;
+        }
+        Ok(())
+    }
+}
 
-const DEBUG: &str = "
-ibm1620 debug --source FILE --commands FILE [OPTION VALUE]..
-  Assembles a source, presses the Load key over its object deck, and carries
-  out the debugger's commands: GO, STEP n, BACK n, BREAK s, CLEAR s, SHOW a n,
-  QUIT.
-    --source FILE   the source (required)
-    --commands FILE the debugger's commands, one on a line (required)
-    --object FILE   gets the object deck; without it the deck is dropped
-    --image FILE    gets the image; without it the image is dropped
-    --listing FILE  gets the listing; without it the listing is dropped
-    --form FORM     the form of the object deck, self or dense; self without it
-    --core N        core's positions: 20000, 40000 or 60000; 20000 without it
-    --data FILE     the cards behind the deck
-    --limit N       the greatest number of steps, those of the deck included
-    --keys FILE     the lines of the keyboard
-    --script FILE   the operator's script; without it the operator does nothing
-    --pack FILE     the disk's pack, read and written; made if it is not there
-    --punched FILE  gets the punched cards; without it they are dropped
-    --typed FILE    gets what the machine types
-    --report FILE   gets what the commands print, and the report line
-";
+// A line for each of some options, with what is said of all of them at its end.
+#[derive(Clone, Copy)]
+struct OptionLines(&'static [OptionRow], &'static str);
 
-const GENERATE: &str = "
-ibm1620 generate --statements N --number K [OPTION VALUE]..
-  Makes a source for trials: the same one for the same numbers.
-    --statements N  how many statements, 8 to 1600 (required)
-    --number K      what it is made by, 0 to 999999 (required)
-    --made FILE     gets the source; without it the source is dropped
-    --report FILE   gets the report line
-";
+impl fmt::Display for OptionLines {
+    ghost output = { λ lines. Some (flat_map (option_line lines.1.now) (map (λ r. told r.0.now r.1.now r.2.now) lines.0.now)) };
 
-const TRIAL: &str = "
-ibm1620 trial --statements N --number K [OPTION VALUE]..
-  Makes such a source, assembles it, loads its object deck and runs it.
-    --statements N  how many statements, 8 to 1600 (required)
-    --number K      what it is made by, 0 to 999999 (required)
-    --report FILE   gets the report line
-";
+    fn fmt<W: fmt::Write>(&self, f: &mut fmt::Formatter<W>) -> fmt::Result {
+        let ending = self.1;
+        for row in self.0 {
+            let line = OptionLine(row, ending);
+            write!(f, "{line}")?;
+        }
+        Ok(())
+    }
+}
 
-const DISK: &str = "
-ibm1620 disk --source FILE --pack FILE [OPTION VALUE]..
-  Assembles a source, writes its image to the pack, and punches the deck that
-  loads it from there: load --deck DECK --pack FILE runs it.
-    --source FILE   the source (required)
-    --pack FILE     takes the sectors; made if it is not there (required)
-    --object FILE   gets the bootstrap deck; without it the deck is dropped
-    --image FILE    gets the image; without it the image is dropped
-    --core N        core's positions: 20000, 40000 or 60000; 20000 without it
-    --report FILE   gets the report line
-";
+// The line of an option: what is said of it stands in column 21.
+#[derive(Clone, Copy)]
+struct OptionLine(&'static OptionRow, &'static str);
+
+impl fmt::Display for OptionLine {
+    ghost output = { λ line. Some (option_line line.1.now (told line.0.now.0.now line.0.now.1.now line.0.now.2.now)) };
+
+    fn fmt<W: fmt::Write>(&self, f: &mut fmt::Formatter<W>) -> fmt::Result {
+        let (word, value, said, _) = *self.0;
+        let blanks = Blanks(
+            13usize
+                .saturating_sub(word.len())
+                .saturating_sub(value.len()),
+        );
+        let ending = self.1;
+        write!(f, "    --{word} {value}{blanks}{said}{ending}\n")
+    }
+}
 
 // What holds for the options of each command.
 const OPTIONS: &str = "
