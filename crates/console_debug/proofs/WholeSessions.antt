@@ -3,6 +3,7 @@ use Rattle.std.proofs.Common.{◌≡◌, ◌∙◌, ◌≤◌, ◌<◌, ℕ, zer
 use Rattle.std.proofs.lemmas.List.Sums.{sum_by-cons}
 use Rattle.std.specs.Prelude.{Option, Some, None, IfSome, slice_get, if◌then◌else◌}
 use Rattle.digit_core.specs.Size.{size}
+use Rattle.outside_io.specs.declared.whole.Sent.{Sent}
 use Rattle.outside_io.specs.declared.whole.Sent.TheVariants as sent
 use Rattle.outside_io.specs.World.{Seen}
 use Rattle.outside_io.proofs.EventLemmas.{did_none}
@@ -18,7 +19,7 @@ use Rattle.console_debug.specs.declared.commands.DebugCommand.{DebugCommand}
 use Rattle.console_debug.specs.Grammar.{is_break}
 use Rattle.console_debug.specs.Session.{Course, Session, session_after, is_quit, session_of, at_first}
 use Rattle.console_debug.specs.CursorStates.{CursorState, cursor_state, kept_at_place, IsOn, IsFitPlace, IsFit}
-use Rattle.console_debug.specs.Carries.{DebuggerState, debugger_state, StandsIn, Does, Fails, Underway}
+use Rattle.console_debug.specs.Carries.{DebuggerState, debugger_state, StandsIn, Does, Fails, Carries, Underway}
 use Rattle.console_debug.specs.Debugs.{task, course_of, without_count, StandsBy, StandsWithin, EndsSession, BreaksSession}
 use Rattle.console_debug.proofs.Stepping.{kept_told}
 use Rattle.console_debug.proofs.Onward.{session_onward}
@@ -77,13 +78,6 @@ room_left breaks next capacity next_capacity c cs left is room few same =
     ap (λ (all : List DebugCommand). count_by is_break all) is ∙ sum_by-cons (λ x. if is_break x then 1 else 0) c cs in
     omega (arith, counted)
 
--- and room for that of the first
-pub room_now : (breaks capacity : ℕ) (c : DebugCommand) (cs left : List DebugCommand) → left ≡ c ∷ cs → breaks + count_by is_break left ≤ capacity → breaks + (if is_break c then 1 else 0) ≤ capacity
-room_now breaks capacity c cs left is room =
-    let counted : count_by is_break left ≡ (if is_break c then 1 else 0) + count_by is_break cs =
-    ap (λ (all : List DebugCommand). count_by is_break all) is ∙ sum_by-cons (λ x. if is_break x then 1 else 0) c cs in
-    omega (arith, counted)
-
 -- What a whole session comes to.
 
 if_told : {A : Type 0} (P : A → Type 0) (o : Option A) → ((x : A) → o ≡ Some x → P x) → IfSome o P
@@ -111,6 +105,12 @@ module _ (m limit : ℕ) (placed : List PlacedText) (machine : Machine m) (scrip
       one_fit : IsFitPlace limit (place_of_machine m machine 0) → All (IsFitPlace limit) (place_of_machine m machine 0 ∷ [])
       one_fit fit zero k inside = fit
       one_fit fit (suc i) k inside = absurd (omega (arith, inside))
+
+  -- what was carried out from there, where the kept place, the breakpoints and the commands are these
+  pub from_first : (kept : List Kept) (set : List ℕ) (list commands : List DebugCommand) (next : DebuggerState m) (how : Sent) → kept ≡ place_of_machine m machine 0 ∷ [] → set ≡ [] → list ≡ commands
+      → Carries m limit placed (session_of list) (debugger_state m (cursor_state m machine script 0 kept 0 seen) set) next how
+      → Carries m limit placed (session_of commands) (debugger_state m first_cursor_state []) next how
+  from_first kept set list commands next how one none same carries = rw (one, none, same) at carries
 
   first_on : (p : RunPlace) → place_of m (run_state m machine script 0) seen.world ≡ Some p → IsOn m (record { limit = limit; placed = placed; first = p }) 0 0 first_cursor_state
   unfolding place_after last_within

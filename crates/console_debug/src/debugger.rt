@@ -1,6 +1,6 @@
 // A session of the debugger.
 // Source: this project's own.
-ghost use Rattle.std.specs.Prelude.{◌≡◌, ◌≤◌, ◌+◌, [], All, false, vec_len};
+ghost use Rattle.std.specs.Prelude.{◌≡◌, ◌≤◌, ◌+◌, [], All, count_by, false, vec_len};
 ghost use Rattle.outside_io.specs.declared.host.Unit.TheVariants as units;
 ghost use Rattle.outside_io.specs.Whole.{Sends};
 ghost use Rattle.digit_core.specs.Size.{size};
@@ -10,7 +10,7 @@ ghost use Rattle.operator_script.specs.Run.{moment};
 ghost use Rattle.sps_listing.specs.Listing.{placed_texts};
 ghost use Rattle.console_debug.specs.Breakpoints.{HasTables, HasRoomIn, HasSameRoom, set_now};
 ghost use Rattle.console_debug.specs.CommandLists.{IsCommand, HasRoom, breakpoints, command_list};
-ghost use Rattle.console_debug.specs.Grammar.{break_count, most_shown};
+ghost use Rattle.console_debug.specs.Grammar.{break_count, is_break, most_shown};
 ghost use Rattle.console_debug.specs.Session as does;
 ghost use Rattle.console_debug.specs.Lines.{show_line};
 ghost use Rattle.console_debug.specs.Carries.{Carries, IsReadyFor, IsSameDebugger, Sets, marks, debugger_state_of};
@@ -89,34 +89,6 @@ pub fn session<const M: u32, H: Host>(
     ensures kept { command_list commands.new ≡ command_list commands.old }
     ensures room { HasRoom commands.new }
 {
-    let end = carry_out_all(machine, script, limit, assembled, commands, rewind, host);
-    commands.breaks.settle();
-    end
-}
-
-// Carries the commands out, beside which the breakpoints that are set are told by tables.
-fn carry_out_all<const M: u32, H: Host>(
-    machine: &mut Machine<M>,
-    script: &mut Script,
-    limit: u64,
-    assembled: &Assembled,
-    commands: &mut Commands,
-    rewind: &mut Rewind<M>,
-    host: &mut H,
-) -> SessionEnd
-    requires mode { is_faulted machine.old.mode ≡ false }
-    requires lines { All (IsLine (size M)) (lines_left script.old) }
-    requires fits { All (IsCommand (size M)) (command_list commands.old) }
-    requires room { HasRoom commands.old }
-    requires empty { rewind.old ≡ [] }
-    ensures does { let given = task limit (placed_texts assembled.now) (command_list commands.old) in
-        let before = moment M machine.old script.old 0 (H.seen host.old) in
-        let after = without_count M machine.new script.new (H.seen host.new) in
-        Debugs M given before after (set_now commands.new.breaks) result }
-    ensures kept { command_list commands.new ≡ command_list commands.old }
-    ensures logged { HasRoomIn (vec_len commands.new.breaks.log) commands.new.breaks }
-    ensures room { HasRoom commands.new }
-{
     commands.breaks.clear_all(assembled);
     rewind.keep(machine, 0);
     let run = Run {
@@ -134,17 +106,12 @@ fn carry_out_all<const M: u32, H: Host>(
         assembled,
         breaks: &mut commands.breaks,
     };
-    for i in 0..commands.list.len() {
-        let command = commands.list[i];
-        if is_quit(command) {
-            return SessionEnd::Ended;
-        }
-        match debugger.carry_out(command, host) {
-            Sent::Done => {}
-            Sent::Failed => return SessionEnd::Failed,
-        }
+    let sent = debugger.carry_out_all(&commands.list, host);
+    commands.breaks.settle();
+    match sent {
+        Sent::Done => SessionEnd::Ended,
+        Sent::Failed => SessionEnd::Failed,
     }
-    SessionEnd::Ended
 }
 
 // Whether it is `QUIT`.
@@ -163,6 +130,29 @@ struct Debugger<'r, 'k, 'a, 'b, const M: u32> {
 }
 
 impl<const M: u32> Debugger<'_, '_, '_, '_, M> {
+    // Carries out one command after another, up to QUIT or their end.
+    fn carry_out_all<H: Host>(&mut self, list: &[DebugCommand], host: &mut H) -> Sent
+        requires ready { IsReadyFor M (count_by is_break list.now) self.old (H.seen host.old) }
+        requires fits { All (IsCommand (size M)) list.now }
+        ensures same { IsSameDebugger M self.old self.new }
+        ensures carries { let before = debugger_state_of M self.old (H.seen host.old) in
+            let after = debugger_state_of M self.new (H.seen host.new) in
+            Carries M self.old.cursor.run.limit (placed_texts self.old.assembled.now) (does.session_of list.now) before after result }
+        ensures len { vec_len self.new.breaks.now.log ≤ vec_len self.old.breaks.now.log + count_by is_break list.now }
+        ensures room { HasSameRoom self.old.breaks.now self.new.breaks.now }
+    {
+        for command in list {
+            if is_quit(*command) {
+                return Sent::Done;
+            }
+            match self.carry_out(*command, host) {
+                Sent::Done => {}
+                Sent::Failed => return Sent::Failed,
+            }
+        }
+        Sent::Done
+    }
+
     // Carries out a command; QUIT does nothing.
     fn carry_out<H: Host>(&mut self, command: DebugCommand, host: &mut H) -> Sent
         requires ready { IsReadyFor M (break_count command) self.old (H.seen host.old) }

@@ -1,12 +1,12 @@
 -- The breakpoints that stay, or the line of a statement that is no instruction.
-use Rattle.std.proofs.Common.{◌∙◌, ◌≡◌, ℕ, Bool, List, sym, ap, subst}
+use Rattle.std.proofs.Common.{◌∙◌, ℕ, Bool, List, sym, ap, subst}
 use Rattle.std.specs.Prelude.{if◌then◌else◌}
 use Rattle.outside_io.specs.declared.host.Unit.TheVariants as units
 use Rattle.outside_io.specs.Whole.{Sends}
 use Rattle.sps_listing.specs.Listing.{placed_texts}
 use Rattle.console_debug.specs.Breakpoints.{set_now}
 use Rattle.console_debug.specs.Session.{without_break}
-use Rattle.console_debug.proofs.Commanding.{none_set, all_set, same_set}
+use Rattle.console_debug.proofs.Commanding.{all_set, same_set}
 use Rattle.console_debug.proofs.debugger.clear_break.Goals as goal
 
 pub returns-then-clear-clause-sets : goal.returns-then-clear-clause-sets
