@@ -1,6 +1,6 @@
 -- Under way to the next step.
-use Rattle.std.proofs.Common.{◌≡◌, ℕ, suc, ◌+◌, ◌-◌, ◌<◌, ◌≤◌, ◌⊎◌, max, nat_lt, Bool, true, false, List, [], ◌∷◌, length, inl, inr, refl, sym, ◌∙◌, ap, subst, arith}
-use Rattle.std.specs.Prelude.{Option, Some, None, IfSome, option_map, slice_get}
+use Rattle.std.proofs.Common.{◌≡◌, ℕ, suc, ◌+◌, ◌<◌, ◌≤◌, ◌⊎◌, max, Bool, true, false, List, [], ◌∷◌, length, inl, inr, refl, sym, ◌∙◌, ap, subst, arith}
+use Rattle.std.specs.Prelude.{Option, Some, None, option_map}
 use Rattle.outside_io.specs.World.{Seen}
 use Rattle.cpu_step.specs.declared.machine.Machine.{Machine}
 use Rattle.cpu_step.specs.Machine.{Frames, is_read, is_written}
@@ -10,40 +10,22 @@ use Rattle.operator_script.specs.declared.turns.Ending.TheVariants as ending
 use Rattle.operator_script.specs.declared.turns.TurnEnd.TheVariants as end
 use Rattle.operator_script.specs.declared.turns.TurnEnd.{TurnEnd}
 use Rattle.operator_script.specs.Turn.{RunPlace, Turning, Acted, Stepped, Ended, turn, is_step, place_after_step, IsCutTurn, in_step, in_load}
-use Rattle.rewind_log.specs.Kept.{Kept}
-use Rattle.rewind_log.proofs.Places.{element}
 use Rattle.console_debug.specs.Places.{Reached, later, turns_to_step}
 use Rattle.console_debug.specs.Session.{Course, nth_place, places_ahead}
-use Rattle.console_debug.specs.CursorStates.{CursorState, kept_at_place, IsOn, IsFit, IsLed, MovesOn, StaysOn, BreaksOn, Advances, IsStepAhead, ToAStep, ToTheEnd, BreaksOnTheWay, ToStep, came_to_end, moves_left, turns_or_all}
+use Rattle.console_debug.specs.CursorStates.{CursorState, IsOn, IsFit, IsLed, MovesOn, StaysOn, BreaksOn, Advances, IsStepAhead, ToAStep, ToTheEnd, BreaksOnTheWay, ToStep, came_to_end, moves_left, turns_or_all}
 use Rattle.console_debug.proofs.Looking.{stays_on, stays_fit, stays_frames}
-use Rattle.console_debug.proofs.Courses.{led_by, turn_between, led_by_count}
+use Rattle.console_debug.proofs.Courses.{led_by}
 use Rattle.console_debug.proofs.Later.{later_on, later_none}
-use Rattle.console_debug.proofs.Stepping.{count_told, if_some}
+use Rattle.console_debug.proofs.Stepping.{count_told}
 use Rattle.outside_io.proofs.Frames.{keeps_all}
-
-some_same : {A : Type 0} (x y : A) → Some x ≡ Some y → x ≡ y
-some_same x y e = cc
 
 step_by : (by_step : Bool) (q : RunPlace) → is_step (led_by by_step q) ≡ by_step
 step_by true q = refl
 step_by false q = refl
 
--- THE COUNT OF THE KEPT PLACE BEHIND TELLS WHETHER A STEP COMES NEXT.
-pub step_kept : (m limit : ℕ) (x : CursorState m) (count : ℕ) → 0 < x.behind → x.behind < length x.kept → IfSome (slice_get x.kept (length x.kept - x.behind)) (λ k. count ≡ k.steps)
-    → IsStepAhead m limit x (nat_lt x.at.steps count)
-step_kept m limit x count some few there c n f within on_it =
-    let at = length x.kept - x.behind in
-    let inside : at < length x.kept = omega (arith, some, few) in
-    let k = element x.kept at inside in
-    let next : suc n ≤ f = omega (arith, on_it.number, some) in
-    let enough : length x.kept ≤ suc f = elim on_it.count [ inl all ↦ omega (arith, all) | inr last ↦ omega (arith, last.0, last.1) ] in
-    let number : suc f - length x.kept + at ≡ suc n = omega (arith, enough, on_it.number, few, some) in
-    let place : k.0 ≡ kept_at_place (nth_place c (suc n)) = some_same k.0 (kept_at_place (nth_place c (suc n))) (sym k.1 ∙ on_it.kept at inside ∙ ap (λ j. Some (kept_at_place (nth_place c j))) number) in
-    let count_is : count ≡ (nth_place c (suc n)).steps = if_some (λ (z : Kept). count ≡ z.steps) (slice_get x.kept at) k.0 k.1 there ∙ ap (λ (z : Kept). z.steps) place in
-    let led = turn_between c f on_it.reached n next in
-    let here = count_told m x.at x.seen.world (nth_place c n) (nth_place c f) on_it.told in
-    let which : led.0 ≡ nat_lt x.at.steps count = led_by_count c.limit (nth_place c n) (nth_place c (suc n)) led.0 led.1 ∙ ap (λ j. nat_lt j (nth_place c (suc n)).steps) here ∙ ap (λ j. nat_lt x.at.steps j) (sym count_is) in
-    subst (λ j. is_step (turn j (nth_place c n)) ≡ nat_lt x.at.steps count) within (ap is_step led.1 ∙ step_by led.0 (nth_place c (suc n)) ∙ which)
+-- a move on tells whether a step comes next
+pub next_step : (m limit : ℕ) (by_step : Bool) (x new : CursorState m) → MovesOn m limit (led_by by_step) x new → IsStepAhead m limit x by_step
+next_step m limit by_step x new moves c n f within on_it = ap is_step (moves.told c n f within on_it).0 ∙ step_by by_step (nth_place c (suc n))
 
 pub no_step : (q : RunPlace) (rs : List Reached) → turns_to_step (record { place = q; by_step = false } ∷ rs) ≡ option_map suc (turns_to_step rs)
 unfolding turns_to_step

@@ -1,6 +1,5 @@
 -- STEP over the kept places: each step behind its line, while the machine stays where it is; at the end it is brought there.
-use Rattle.std.proofs.Common.{◌≡◌, ◌∙◌, ℕ, suc, ◌+◌, ◌-◌, ◌<◌, ◌≤◌, nat_lt, max, inl, inr, true, false, List, length, refl, sym, ap, subst, arith}
-use Rattle.std.proofs.lemmas.Bool.Decides.{nat_tests}
+use Rattle.std.proofs.Common.{◌≡◌, ◌∙◌, ℕ, suc, ◌+◌, ◌-◌, ◌<◌, ◌≤◌, max, inr, true, false, List, length, refl, sym, ap, subst, arith}
 use Rattle.std.specs.Prelude.{IfSome, slice_get, option_map}
 use Rattle.outside_io.specs.declared.host.Unit.TheVariants as units
 use Rattle.outside_io.specs.declared.whole.Sent.TheVariants as sent
@@ -13,24 +12,18 @@ use Rattle.operator_script.specs.Turn.{Acted, turn}
 use Rattle.sps_pass_two.specs.Assembled.{PlacedText}
 use Rattle.console_debug.specs.Lines.{at_line}
 use Rattle.console_debug.specs.Places.{turns_to_step}
-use Rattle.console_debug.specs.Session.{Course, Session, nth_place, places_ahead, goes_to, steps}
-use Rattle.console_debug.specs.CursorStates.{CursorState, IsOn, IsFit, MovesOn, IsStepAhead, IsThere, ToAStep}
+use Rattle.console_debug.specs.Session.{nth_place, places_ahead, goes_to, steps}
+use Rattle.console_debug.specs.CursorStates.{CursorState, IsOn, IsFit, MovesOn, IsThere, ToAStep}
 use Rattle.console_debug.specs.Carries.{DebuggerState, debugger_state, Fails, Underway}
 use Rattle.console_debug.proofs.Courses.{led_by}
 use Rattle.console_debug.proofs.DebuggerStates.{begins, goes_on, moved}
-use Rattle.console_debug.proofs.Heading.{sets_out, step_kept, step_there, within_limit, no_step}
-use Rattle.console_debug.proofs.KeptMoves.{would_be, starts, there_once, next_there, next_machine, next_kept, next_is, next_moves}
+use Rattle.console_debug.proofs.Heading.{sets_out, next_step, step_there, within_limit, no_step}
+use Rattle.console_debug.proofs.KeptMoves.{would_be, starts, less, not_less, brought_there, next_there, next_machine, next_kept, next_is, next_moves}
 use Rattle.console_debug.proofs.Later.{later_on}
 use Rattle.console_debug.proofs.Onward.{steps_by, steps_acted}
 use Rattle.console_debug.proofs.PlaceLines.{at_said}
-use Rattle.console_debug.proofs.StepByStep.{then_steps, to_a_step, step_then, step_made_on, step_failed, line_failed}
+use Rattle.console_debug.proofs.StepByStep.{step_then, step_made_on, step_failed, line_failed}
 use Rattle.console_debug.proofs.Stepping.{if_some}
-
-less : (a b : ℕ) → a < b → true ≡ nat_lt a b
-less a b h = grind (arith, nat_tests)
-
-not_less : (a b : ℕ) → b ≤ a → false ≡ nat_lt a b
-not_less a b h = grind (arith, nat_tests)
 
 -- a move that was no step leaves all steps to be made
 acts_over : (m limit : ℕ) (placed : List PlacedText) (set : List ℕ) (n : ℕ) (x new : CursorState m) → IsFit m limit x → MovesOn m limit Acted x new
@@ -110,12 +103,11 @@ module _ (m limit : ℕ) (placed : List PlacedText) (set : List ℕ) (all : ℕ)
               (goes_on m limit placed (steps all) (steps (suc n)) (steps (suc n)) first here (debugger_state m new set) under_x (acts_over m limit placed set n x new on.under.fit moves));
         }
 
-    -- a step led there: to its line
-    to_line : count < next_count → Underway m limit placed (steps all) (then_steps m limit placed n set x x) first here
-    to_line step =
-        let next_step : IsStepAhead m limit x true = subst (IsStepAhead m limit x) (sym (less count next_count step)) (step_kept m limit x next_count some few count_is) in
-        let to : ToAStep m limit x x = step_there m limit x x (sets_out m limit x on.under.fit) next_step in
-        goes_on m limit placed (steps all) (steps (suc n)) (then_steps m limit placed n set x x) first here here under_x (to_a_step m limit placed n set x x to)
+    -- a step led there, which comes next
+    to_it : count < next_count → ToAStep m limit x x
+    to_it step =
+        let moves = next_moves m limit old on.would count behind next next_count on.there few some one count_is seen on.under.fit true (less count next_count step) in
+        step_there m limit x x (sets_out m limit x on.under.fit) (next_step m limit true x (would_be m limit old would_next next_count next seen) moves)
 
     -- the line was printed
     pub steps_over : count < next_count → (after : Seen) → Sends seen after units.Report (at_line ir count) sent.Done
@@ -129,7 +121,7 @@ module _ (m limit : ℕ) (placed : List PlacedText) (set : List ℕ) (all : ℕ)
           would = would_next;
           there = there_next;
           ir_is = ir_next regs is;
-          under = step_then m limit placed n set x x (steps all) first (debugger_state m new set) (to_line step)
+          under = step_then m limit placed set (steps all) first left n x x is_left on.under (to_it step) (debugger_state m new set)
               (step_made_on m limit placed x set after on.under.fit new end.Stepped (inr refl) line moves);
         }
 
@@ -138,15 +130,11 @@ module _ (m limit : ℕ) (placed : List PlacedText) (set : List ℕ) (all : ℕ)
         → (y : Machine m) (k : ℕ) → IsThere m old y k behind → Fails m limit placed (steps all) first (debugger_state m (would_be m limit old y k behind after) set)
     line_fails step after sends y k at =
         let line : Sends seen after units.Report (at_line on.would.regs.ir count) sent.Failed = subst (λ i. Sends seen after units.Report (at_line i count) sent.Failed) on.ir_is sends in
-        let same = there_once m limit old on.would y count k behind few on.there at in
-        let fails = step_failed m limit placed n set x x (steps all) first (debugger_state m (record x { seen = after }) set) (to_line step) (line_failed m limit placed x set after on.under.fit line) in
-        subst (λ j. Fails m limit placed (steps all) first (debugger_state m (would_be m limit old y j behind after) set)) same.1
-        (subst (λ (z : Machine m). Fails m limit placed (steps all) first (debugger_state m (would_be m limit old z count behind after) set)) same.0 fails)
+        brought_there m limit old (λ (z : CursorState m). Fails m limit placed (steps all) first (debugger_state m z set)) after on.would y count k behind few on.there at
+        (step_failed m limit placed set (steps all) first left n x x is_left on.under (to_it step) (debugger_state m (record x { seen = after }) set) (line_failed m limit placed x set after on.under.fit line))
 
   -- so far the kept places or the steps lead: the machine is brought there
   pub steps_end : (seen : Seen) (ir count behind left : ℕ) → StepsOn seen ir count behind left → (y : Machine m) (k : ℕ) → IsThere m old y k behind
       → Underway m limit placed (steps all) (steps left) first (debugger_state m (would_be m limit old y k behind seen) set)
   steps_end seen ir count behind left on y k at =
-      let same = there_once m limit old on.would y count k behind on.under.fit.few on.there at in
-      subst (λ j. Underway m limit placed (steps all) (steps left) first (debugger_state m (would_be m limit old y j behind seen) set)) same.1
-      (subst (λ (z : Machine m). Underway m limit placed (steps all) (steps left) first (debugger_state m (would_be m limit old z count behind seen) set)) same.0 on.under)
+      brought_there m limit old (λ (z : CursorState m). Underway m limit placed (steps all) (steps left) first (debugger_state m z set)) seen on.would y count k behind on.under.fit.few on.there at on.under

@@ -95,56 +95,67 @@ module _ (m limit : ℕ) (placed : List PlacedText) (x : CursorState m) (set : L
   step_over new (ending.Jam u i) other next sends stays = stays_over new (ending.Jam u i) next sends stays
   step_over new ending.Failed other next sends stays = absurd (other refl)
 
--- STEP
+-- how many steps are left, written otherwise
+pub steps_left : (m limit : ℕ) (placed : List PlacedText) (k j : ℕ) (f : Course → Session → Session) (first now : DebuggerState m) → k ≡ j → Underway m limit placed f (steps k) first now → Underway m limit placed f (steps j) first now
+steps_left m limit placed k j f first now same under = subst (λ i. Underway m limit placed f (steps i) first now) same under
 
-module _ (m limit : ℕ) (placed : List PlacedText) (n : ℕ) (set : List ℕ) (old mid : CursorState m) where
+-- STEP, of whose steps some are left: the next of them
+module _ (m limit : ℕ) (placed : List PlacedText) (set : List ℕ) (f : Course → Session → Session) (first : DebuggerState m) (k n : ℕ) (old mid : CursorState m) (one : k ≡ suc n)
+    (under : Underway m limit placed f (steps k) first (debugger_state m old set)) where
+  abbrev here : DebuggerState m
+  here = debugger_state m old set
+
+  abbrev there : DebuggerState m
+  there = debugger_state m mid set
+
+  under_one : Underway m limit placed f (steps (suc n)) first here
+  under_one = steps_left m limit placed k (suc n) f first here one under
+
   -- the step, and the others behind it
-  abbrev pub then_steps : Course → Session → Session
+  abbrev then_steps : Course → Session → Session
   then_steps c s = steps n c (step_on c s)
 
-  pub to_a_step : ToAStep m limit old mid → Underway m limit placed (steps (suc n)) then_steps (debugger_state m old set) (debugger_state m mid set)
-  to_a_step to = moved m limit placed (steps (suc n)) then_steps old mid set to.frames to.fit
+  at_step : ToAStep m limit old mid → Underway m limit placed f then_steps first there
+  at_step to = goes_on m limit placed f (steps (suc n)) then_steps first here there under_one
+      (moved m limit placed (steps (suc n)) then_steps old mid set to.frames to.fit
       (λ c over s are on_it.
       let led = to.told c s.at s.furthest over.limit_is on_it in
-      (led.0, led.2, steps_by c n s ∙ ap (step_by c n s) led.1))
+      (led.0, led.2, steps_by c n s ∙ ap (step_by c n s) led.1)))
 
   -- no step comes any more
   pub stepped_out : (ends : Ending) (after : Seen) (how : Sent) → ToTheEnd m limit ends old mid → Sends mid.seen after units.Report (ending_line ends mid.at.steps) how
-      → Carries m limit placed (steps (suc n)) (debugger_state m old set) (debugger_state m (record mid { seen = after }) set) how
+      → Carries m limit placed f first (debugger_state m (record mid { seen = after }) set) how
   stepped_out ends after how to sends =
-      ends_with m limit placed (steps (suc n)) says_end (debugger_state m old set) (debugger_state m mid set) (debugger_state m (record mid { seen = after }) set) how
+      let last = debugger_state m (record mid { seen = after }) set in
+      ends_with m limit placed f (steps (suc n)) first here last how under_one
+      (ends_with m limit placed (steps (suc n)) says_end here there last how
       (moved m limit placed (steps (suc n)) says_end old mid set to.frames to.fit
       (λ c over s are on_it.
       let led = to.told c s.at s.furthest over.limit_is on_it in
       (length (places_ahead c s.at), led.1, steps_by c n s ∙ ap (step_by c n s) led.0)))
-      (end_said m limit placed mid set after to.fit ends how to.ending sends)
+      (end_said m limit placed mid set after to.fit ends how to.ending sends))
 
   -- the host failed before the step
-  pub step_broke : BreaksOnTheWay m limit old mid → Fails m limit placed (steps (suc n)) (debugger_state m old set) (debugger_state m mid set)
-  step_broke fails = broke m limit placed (steps (suc n)) old mid set fails.frames fails.rose
+  pub step_broke : BreaksOnTheWay m limit old mid → Fails m limit placed f first there
+  step_broke fails = ends_with m limit placed f (steps (suc n)) first here there sent.Failed under_one
+      (broke m limit placed (steps (suc n)) old mid set fails.frames fails.rose
       (λ c over s are on_it.
       let at = fails.told c s.at s.furthest over.limit_is on_it in
       let o = turns_to_step (places_ahead c s.at) in
-      let k = s.at + at.0 - s.furthest in
+      let j = s.at + at.0 - s.furthest in
       broken_at m limit placed (steps (suc n)) mid c over s at.0 at.2 at.3
-      (subst (MakesTurns s (suc k)) (sym (steps_by c n s)) (step_makes c n s o (suc k) (omega (arith, at.1, at.2)))))
+      (subst (MakesTurns s (suc j)) (sym (steps_by c n s)) (step_makes c n s o (suc j) (omega (arith, at.1, at.2))))))
 
   -- a step that was made, or in which the host failed
-  pub step_then : (f : Course → Session → Session) (first last : DebuggerState m) → Underway m limit placed f then_steps first (debugger_state m mid set) → Does m limit placed step_on (debugger_state m mid set) last
-      → Underway m limit placed f (steps n) first last
-  step_then f first last under does =
-      goes_on m limit placed f then_steps (steps n) first (debugger_state m mid set) last under
-      (does_first m limit placed then_steps (steps n) step_on (debugger_state m mid set) last (λ c s. refl) does)
+  pub step_then : ToAStep m limit old mid → (last : DebuggerState m) → Does m limit placed step_on there last → Underway m limit placed f (steps n) first last
+  step_then to last does =
+      goes_on m limit placed f then_steps (steps n) first there last (at_step to)
+      (does_first m limit placed then_steps (steps n) step_on there last (λ c s. refl) does)
 
-  pub step_failed : (f : Course → Session → Session) (first last : DebuggerState m) → Underway m limit placed f then_steps first (debugger_state m mid set) → Fails m limit placed step_on (debugger_state m mid set) last
-      → Fails m limit placed f first last
-  step_failed f first last under fails =
-      ends_with m limit placed f then_steps first (debugger_state m mid set) last sent.Failed under
-      (fails_first m limit placed then_steps (steps n) step_on (debugger_state m mid set) last (λ c s. refl) (λ c s. steps_onward n c s) fails)
-
--- how many steps are left, written otherwise
-pub steps_left : (m limit : ℕ) (placed : List PlacedText) (k j : ℕ) (f : Course → Session → Session) (first now : DebuggerState m) → k ≡ j → Underway m limit placed f (steps k) first now → Underway m limit placed f (steps j) first now
-steps_left m limit placed k j f first now same under = subst (λ i. Underway m limit placed f (steps i) first now) same under
+  pub step_failed : ToAStep m limit old mid → (last : DebuggerState m) → Fails m limit placed step_on there last → Fails m limit placed f first last
+  step_failed to last fails =
+      ends_with m limit placed f then_steps first there last sent.Failed (at_step to)
+      (fails_first m limit placed then_steps (steps n) step_on there last (λ c s. refl) (λ c s. steps_onward n c s) fails)
 
 -- none is left
 pub steps_done : (m limit : ℕ) (placed : List PlacedText) (k : ℕ) (f : Course → Session → Session) (first now : DebuggerState m) → k ≡ 0 → Underway m limit placed f (steps k) first now → Does m limit placed f first now

@@ -28,7 +28,7 @@ use Rattle.operator_script.proofs.Running.{Underway, turns_left, place_told, pla
 use Rattle.rewind_log.specs.Kept.{Kept, place_of_machine, places_with, machine_at, newest, most_places}
 use Rattle.rewind_log.proofs.Places.{element}
 use Rattle.console_debug.specs.Session.{Course, nth_place, place_as_seen}
-use Rattle.console_debug.specs.CursorStates.{CursorState, cursor_state, with_machine, kept_at_place, newest_count, AreAllOrLast, IsOn, IsFitPlace, IsFit, MovesOn, StaysOn, BreaksOn, Advances, GoesToKept, IsAtKept, GoesBack, StaysThere}
+use Rattle.console_debug.specs.CursorStates.{CursorState, cursor_state, with_machine, kept_at_place, newest_count, AreAllOrLast, IsOn, IsFitPlace, IsFit, MovesOn, StaysOn, BreaksOn, Advances, IsAtKept, GoesBack}
 use Rattle.console_debug.proofs.Courses.{led_by, after_last, turn_between, led_by_count}
 
 some_same : {A : Type 0} (x y : A) → Some x ≡ Some y → x ≡ y
@@ -69,40 +69,43 @@ some_holds {A = A} P o x is holds = subst (λ (p : Option A). IfSome p P) (sym i
 newest_is : (ks : List Kept) (k : Kept) → slice_get ks (length ks - 1) ≡ Some k → newest_count ks ≡ k.steps
 newest_is ks k is = ap (λ (o : Option Kept). elim o [ None ↦ 0 | Some x ↦ x.steps ]) is
 
-module _ (m limit : ℕ) (old : CursorState m) (machine : Machine m) (steps behind : ℕ) (stepped : Bool) (fit : IsFit m limit old) (some : 0 < old.behind) (next : behind + 1 ≡ old.behind)
-    (there : IfSome (slice_get old.kept (length old.kept - old.behind)) (GoesToKept m old.at.machine machine old.at.steps steps stepped)) where
+-- the one behind which so many are kept
+module _ (m limit : ℕ) (old : CursorState m) (machine : Machine m) (steps behind : ℕ) (fit : IsFit m limit old) (few : behind < length old.kept)
+    (there : IfSome (slice_get old.kept (length old.kept - 1 - behind)) (IsAtKept m old.at.machine machine steps)) where
   abbrev new : CursorState m
   new = cursor_state m machine old.at.script steps old.kept behind old.seen
 
-  abbrev i : ℕ
-  i = length old.kept - old.behind
+  abbrev at : ℕ
+  at = length old.kept - 1 - behind
 
-  inside : i < length old.kept
-  inside = omega (arith, fit.few, some)
+  inside : at < length old.kept
+  inside = omega (arith, few)
 
   abbrev k : Kept
-  k = (element old.kept i inside).0
+  k = (element old.kept at inside).0
 
-  gone : GoesToKept m old.at.machine machine old.at.steps steps stepped k
-  gone = if_some (GoesToKept m old.at.machine machine old.at.steps steps stepped) (slice_get old.kept i) k (element old.kept i inside).1 there
+  k_is : slice_get old.kept at ≡ Some k
+  k_is = (element old.kept at inside).1
+
+  gone : IsAtKept m old.at.machine machine steps k
+  gone = if_some (IsAtKept m old.at.machine machine steps) (slice_get old.kept at) k k_is there
 
   kept_fits : IsFitPlace limit k
-  kept_fits = fit_place limit old.kept i k fit.kept inside (element old.kept i inside).1
+  kept_fits = fit_place limit old.kept at k fit.kept inside k_is
 
-  pub new_fits : IsFit m limit new
+  newest_here : behind ≡ 0 → newest old.kept ≡ Some k
+  newest_here tip = let last : at ≡ length old.kept - 1 = omega (arith, tip) in ap (λ j. slice_get old.kept j) (sym last) ∙ k_is
+
+  new_fits : IsFit m limit new
   new_fits = record {
     within = subst (λ n. n ≤ limit) (sym gone.count_is) kept_fits.within;
     sound = ap (λ (x : Machine m). is_faulted x.mode) gone.machine ∙ kept_fits.sound;
     lines = fit.lines;
-    few = omega (arith, fit.few, next);
+    few = few;
     most = fit.most;
     kept = fit.kept;
-    tip = λ at_tip.
-        let last : i ≡ length old.kept - 1 = omega (arith, fit.few, next, at_tip) in
-        newest_is old.kept k (ap (λ j. slice_get old.kept j) (sym last) ∙ (element old.kept i inside).1) ∙ sym gone.count_is;
-    core = λ at_tip.
-        let last : i ≡ length old.kept - 1 = omega (arith, fit.few, next, at_tip) in
-        some_holds (λ (x : Kept). x.core ≡ machine.core) (newest old.kept) k (ap (λ j. slice_get old.kept j) (sym last) ∙ (element old.kept i inside).1) (sym (ap (λ (x : Machine m). x.core) gone.machine));
+    tip = λ tip. newest_is old.kept k (newest_here tip) ∙ sym gone.count_is;
+    core = λ tip. some_holds (λ (x : Kept). x.core ≡ machine.core) (newest old.kept) k (newest_here tip) (sym (ap (λ (x : Machine m). x.core) gone.machine));
   }
 
   new_frames : Frames m old.at.machine machine old.seen old.seen
@@ -117,56 +120,89 @@ module _ (m limit : ℕ) (old : CursorState m) (machine : Machine m) (steps behi
     lines = keys_kept old.at.machine.keys machine.keys old.seen old.seen (ap (λ (x : Machine m). x.keys) gone.machine) refl refl;
   }
 
-  module _ (c : Course) (n f : ℕ) (within : c.limit ≡ limit) (on_it : IsOn m c n f old) where
-    next_there : suc n ≤ f
-    next_there = omega (arith, on_it.number, some)
-
-    abbrev behind_it : RunPlace
-    behind_it = nth_place c (suc n)
+  -- it is the place with this number
+  module _ (c : Course) (n f number : ℕ) (on_it : IsOn m c n f old) (furthest : f ≡ number + behind) where
+    abbrev p : RunPlace
+    p = nth_place c number
 
     long_enough : length old.kept ≤ suc f
     long_enough = elim on_it.count [ inl all ↦ omega (arith, all) | inr last ↦ omega (arith, last.0, last.1) ]
 
-    number_is : suc f - length old.kept + i ≡ suc n
-    number_is = omega (arith, long_enough, on_it.number, fit.few, some)
+    number_is : suc f - length old.kept + at ≡ number
+    number_is = omega (arith, long_enough, furthest, few)
 
-    kept_is : k ≡ kept_at_place behind_it
-    kept_is = some_same k (kept_at_place behind_it) (sym (element old.kept i inside).1 ∙ on_it.kept i inside ∙ ap (λ j. Some (kept_at_place (nth_place c j))) number_is)
+    kept_is : k ≡ kept_at_place p
+    kept_is = some_same k (kept_at_place p) (sym k_is ∙ on_it.kept at inside ∙ ap (λ j. Some (kept_at_place (nth_place c j))) number_is)
 
-    standing_is : run_state m machine old.at.script steps ≡ moved_to m old.at behind_it
+    standing_is : run_state m machine old.at.script steps ≡ moved_to m old.at p
     standing_is =
-        let at : machine ≡ machine_at m (kept_at_place behind_it) old.at.machine = gone.machine ∙ ap (λ (x : Kept). machine_at m x old.at.machine) kept_is in
-        let count : steps ≡ behind_it.steps = gone.count_is ∙ ap (λ (x : Kept). x.steps) kept_is in
-        ap (λ (x : Machine m). run_state m x old.at.script steps) at ∙ ap (λ j. run_state m (machine_at m (kept_at_place behind_it) old.at.machine) old.at.script j) count
+        let place : machine ≡ machine_at m (kept_at_place p) old.at.machine = gone.machine ∙ ap (λ (x : Kept). machine_at m x old.at.machine) kept_is in
+        let count : steps ≡ p.steps = gone.count_is ∙ ap (λ (x : Kept). x.steps) kept_is in
+        ap (λ (x : Machine m). run_state m x old.at.script steps) place ∙ ap (λ j. run_state m (machine_at m (kept_at_place p) old.at.machine) old.at.script j) count
 
-    new_told : place_of m (run_state m machine old.at.script steps) old.seen.world ≡ Some (place_as_seen behind_it (nth_place c f))
-    new_told = ap (λ (x : RunState m). place_of m x old.seen.world) standing_is ∙ place_restored m old.at old.seen.world (nth_place c n) (nth_place c f) behind_it on_it.told
-
-    turn_is : turn limit (nth_place c n) ≡ led_by stepped behind_it
-    turn_is =
-        let led = turn_between c f on_it.reached n next_there in
-        let counts : led.0 ≡ nat_lt (nth_place c n).steps behind_it.steps = led_by_count c.limit (nth_place c n) behind_it led.0 led.1 in
-        let here : (nth_place c n).steps ≡ old.at.steps = count_told m old.at old.seen.world (nth_place c n) (nth_place c f) on_it.told in
-        let which : led.0 ≡ stepped = counts ∙ ap (λ j. nat_lt j behind_it.steps) here ∙ ap (λ (x : Kept). nat_lt old.at.steps x.steps) (sym kept_is) ∙ sym gone.by_step in
-        subst (λ j. turn j (nth_place c n) ≡ led_by stepped behind_it) within (led.1 ∙ ap (λ b. led_by b behind_it) which)
-
-    new_on : IsOn m c (suc n) f new
+    new_on : IsOn m c number f new
     new_on = record {
-      told = new_told;
+      told = ap (λ (x : RunState m). place_of m x old.seen.world) standing_is ∙ place_restored m old.at old.seen.world (nth_place c n) (nth_place c f) p on_it.told;
       reached = on_it.reached;
-      number = omega (arith, on_it.number, next);
+      number = furthest;
       count = on_it.count;
       kept = on_it.kept;
     }
 
-    furthest_is : f ≡ max f (suc n)
-    furthest_is = omega (arith, next_there)
+-- the next one, and whether its count is the greater one
+module _ (m limit : ℕ) (old : CursorState m) (machine : Machine m) (steps behind : ℕ) (stepped : Bool) (fit : IsFit m limit old) (next : behind + 1 ≡ old.behind)
+    (there : IfSome (slice_get old.kept (length old.kept - 1 - behind)) (IsAtKept m old.at.machine machine steps)) (by_count : stepped ≡ nat_lt old.at.steps steps) where
+  few_behind : behind < length old.kept
+  few_behind = omega (arith, fit.few, next)
 
-    pub moved_there : (turn limit (nth_place c n) ≡ led_by stepped behind_it) × IsOn m c (suc n) (max f (suc n)) new
-    moved_there = (turn_is, subst (λ j. IsOn m c (suc n) j new) furthest_is new_on)
+  abbrev on_there : CursorState m
+  on_there = cursor_state m machine old.at.script steps old.kept behind old.seen
 
-  pub gone_on : MovesOn m limit (led_by stepped) old new
-  gone_on = record { told = moved_there; fit = new_fits; frames = new_frames; fewer = omega (arith, next) }
+  module _ (c : Course) (n f : ℕ) (within : c.limit ≡ limit) (on_it : IsOn m c n f old) where
+    abbrev q : RunPlace
+    q = nth_place c (suc n)
+
+    is_next : IsOn m c (suc n) f on_there
+    is_next = new_on m limit old machine steps behind fit few_behind there c n f (suc n) on_it (omega (arith, on_it.number, next))
+
+    turn_is : turn limit (nth_place c n) ≡ led_by stepped q
+    turn_is =
+        let led = turn_between c f on_it.reached n (omega (arith, on_it.number, next)) in
+        let here : (nth_place c n).steps ≡ old.at.steps = count_told m old.at old.seen.world (nth_place c n) (nth_place c f) on_it.told in
+        let count : q.steps ≡ steps = count_told m on_there.at old.seen.world q (nth_place c f) is_next.told in
+        let which : led.0 ≡ stepped = led_by_count c.limit (nth_place c n) q led.0 led.1 ∙ ap (λ j. nat_lt j q.steps) here ∙ ap (nat_lt old.at.steps) count ∙ sym by_count in
+        subst (λ j. turn j (nth_place c n) ≡ led_by stepped q) within (led.1 ∙ ap (λ b. led_by b q) which)
+
+    moved_there : (turn limit (nth_place c n) ≡ led_by stepped q) × IsOn m c (suc n) (max f (suc n)) on_there
+    moved_there =
+        let furthest : f ≡ max f (suc n) = omega (arith, on_it.number, next) in
+        (turn_is, subst (λ j. IsOn m c (suc n) j on_there) furthest is_next)
+
+  pub gone_on : MovesOn m limit (led_by stepped) old on_there
+  gone_on = record { told = moved_there; fit = new_fits m limit old machine steps behind fit few_behind there; frames = new_frames m limit old machine steps behind fit few_behind there; fewer = omega (arith, next) }
+
+-- BACK: the one so many before.
+module _ (m limit j : ℕ) (old : CursorState m) (machine : Machine m) (steps : ℕ) (fit : IsFit m limit old) (enough : old.behind + j < length old.kept)
+    (there : IfSome (slice_get old.kept (length old.kept - 1 - (old.behind + j))) (IsAtKept m old.at.machine machine steps)) where
+  abbrev earlier : CursorState m
+  earlier = cursor_state m machine old.at.script steps old.kept (old.behind + j) old.seen
+
+  module _ (c : Course) (n f : ℕ) (on_it : IsOn m c n f old) where
+    as_many : j ≤ n
+    as_many = elim on_it.count [ inl all ↦ omega (arith, all, enough, on_it.number) | inr last ↦ omega (arith, last.0, last.1, enough, on_it.number) ]
+
+    still_kept : f - (n - j) < most_places
+    still_kept = omega (arith, on_it.number, as_many, enough, fit.most)
+
+    earlier_on : IsOn m c (n - j) f earlier
+    earlier_on = new_on m limit old machine steps (old.behind + j) fit enough there c n f (n - j) on_it (omega (arith, on_it.number, as_many))
+
+  pub went_back : GoesBack m limit j old earlier
+  went_back = record {
+    told = λ c n f within on_it. (as_many c n f on_it, still_kept c n f on_it, earlier_on c n f on_it);
+    fit = new_fits m limit old machine steps (old.behind + j) fit enough there;
+    frames = new_frames m limit old machine steps (old.behind + j) fit enough there;
+  }
 
 -- A TURN IS MADE, AND KEPT.
 
@@ -421,100 +457,3 @@ module _ (m limit : ℕ) (old : CursorState m) (new : RunState m) (after : Seen)
   over_on (ending.NeedKeys at) rests = rests_on (ending.NeedKeys at) rests
   over_on (ending.Jam u n) rests = rests_on (ending.Jam u n) rests
   over_on ending.Failed broke = breaks_on broke
-
--- BACK.
-
-module _ (m limit j : ℕ) (old : CursorState m) (machine : Machine m) (steps : ℕ) (fit : IsFit m limit old) (enough : old.behind + j < length old.kept)
-    (there : IfSome (slice_get old.kept (length old.kept - 1 - old.behind - j)) (IsAtKept m old.at.machine machine steps)) where
-  abbrev earlier : CursorState m
-  earlier = cursor_state m machine old.at.script steps old.kept (old.behind + j) old.seen
-
-  abbrev at : ℕ
-  at = length old.kept - 1 - old.behind - j
-
-  at_inside : at < length old.kept
-  at_inside = omega (arith, enough)
-
-  abbrev kept_there : Kept
-  kept_there = (element old.kept at at_inside).0
-
-  went : IsAtKept m old.at.machine machine steps kept_there
-  went = if_some (IsAtKept m old.at.machine machine steps) (slice_get old.kept at) kept_there (element old.kept at at_inside).1 there
-
-  there_fits : IsFitPlace limit kept_there
-  there_fits = fit_place limit old.kept at kept_there fit.kept at_inside (element old.kept at at_inside).1
-
-  earlier_fits : IsFit m limit earlier
-  earlier_fits = record {
-    within = subst (λ n. n ≤ limit) (sym went.count_is) there_fits.within;
-    sound = ap (λ (x : Machine m). is_faulted x.mode) went.machine ∙ there_fits.sound;
-    lines = fit.lines;
-    few = enough;
-    most = fit.most;
-    kept = fit.kept;
-    tip = λ at_tip.
-        let none : old.behind ≡ 0 = omega (arith, at_tip) in
-        let last : at ≡ length old.kept - 1 = omega (arith, at_tip) in
-        newest_is old.kept kept_there (ap (λ i. slice_get old.kept i) (sym last) ∙ (element old.kept at at_inside).1) ∙ sym went.count_is;
-    core = λ at_tip.
-        let last : at ≡ length old.kept - 1 = omega (arith, at_tip) in
-        some_holds (λ (x : Kept). x.core ≡ machine.core) (newest old.kept) kept_there (ap (λ i. slice_get old.kept i) (sym last) ∙ (element old.kept at at_inside).1)
-        (sym (ap (λ (x : Machine m). x.core) went.machine));
-  }
-
-  earlier_frames : Frames m old.at.machine machine old.seen old.seen
-  earlier_frames = record {
-    later = omega arith;
-    keeps = keeps_all is_read is_written true old.seen.world;
-    told = ap (λ (x : Machine m). is_some (hopper_left x.hopper old.seen.world)) went.machine;
-    told_keys = ap (λ (x : Machine m). is_some (keys_left x.keys old.seen.world)) went.machine;
-    told_sectors = refl;
-    own = ap (λ (x : Machine m). own_cards x.hopper) went.machine;
-    cards = reads_kept old.at.machine.hopper machine.hopper old.seen old.seen (ap (λ (x : Machine m). x.hopper) went.machine) refl refl refl refl;
-    lines = keys_kept old.at.machine.keys machine.keys old.seen old.seen (ap (λ (x : Machine m). x.keys) went.machine) refl refl;
-  }
-
-  module _ (c : Course) (n f : ℕ) (on_it : IsOn m c n f old) where
-    kept_few : length old.kept ≤ suc f
-    kept_few = elim on_it.count [ inl all ↦ omega (arith, all) | inr last ↦ omega (arith, last.0, last.1) ]
-
-    as_many : j ≤ n
-    as_many = omega (arith, kept_few, enough, on_it.number)
-
-    number_there : suc f - length old.kept + at ≡ n - j
-    number_there = omega (arith, kept_few, enough, on_it.number)
-
-    place_there : kept_there ≡ kept_at_place (nth_place c (n - j))
-    place_there = some_same kept_there (kept_at_place (nth_place c (n - j))) (sym (element old.kept at at_inside).1 ∙ on_it.kept at at_inside ∙ ap (λ i. Some (kept_at_place (nth_place c i))) number_there)
-
-    standing_there : run_state m machine old.at.script steps ≡ moved_to m old.at (nth_place c (n - j))
-    standing_there =
-        let p = nth_place c (n - j) in
-        let place : machine ≡ machine_at m (kept_at_place p) old.at.machine = went.machine ∙ ap (λ (x : Kept). machine_at m x old.at.machine) place_there in
-        let count : steps ≡ p.steps = went.count_is ∙ ap (λ (x : Kept). x.steps) place_there in
-        ap (λ (x : Machine m). run_state m x old.at.script steps) place ∙ ap (λ i. run_state m (machine_at m (kept_at_place p) old.at.machine) old.at.script i) count
-
-    earlier_on : IsOn m c (n - j) f earlier
-    earlier_on = record {
-      told = ap (λ (x : RunState m). place_of m x old.seen.world) standing_there ∙ place_restored m old.at old.seen.world (nth_place c n) (nth_place c f) (nth_place c (n - j)) on_it.told;
-      reached = on_it.reached;
-      number = omega (arith, on_it.number, as_many);
-      count = on_it.count;
-      kept = on_it.kept;
-    }
-
-    still_kept : f - (n - j) < most_places
-    still_kept = omega (arith, on_it.number, as_many, enough, fit.most)
-
-  pub went_back : GoesBack m limit j old earlier
-  went_back = record { told = λ c n f within on_it. (as_many c n f on_it, still_kept c n f on_it, earlier_on c n f on_it); fit = earlier_fits; frames = earlier_frames }
-
--- there are not as many
-pub stays_there : (m limit j : ℕ) (old : CursorState m) → length old.kept ≤ old.behind + j → StaysThere m limit j old old
-stays_there m limit j old over = record {
-  told = λ c n f within on_it as_many. elim on_it.count [
-    | inl all ↦ absurd (omega (arith, all, over, on_it.number, as_many))
-    | inr last ↦ omega (arith, last.0, over, on_it.number, as_many)
-  ];
-  same = refl;
-}

@@ -19,9 +19,6 @@ use Rattle.operator_script.proofs.Running.{place_is}
 use Rattle.console_debug.proofs.Heading.{within_limit, frames_same, option_more, before_step, cut_leads}
 use Rattle.console_debug.proofs.Later.{later_on, later_none}
 
-some_same : {A : Type 0} (x y : A) → Some x ≡ Some y → x ≡ y
-some_same x y e = cc
-
 module _ (placed : List PlacedText) (set : List ℕ) where
   abbrev stops : Mode → ℕ → Bool
   stops mode ir = is_at_break placed set mode ir

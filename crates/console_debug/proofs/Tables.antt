@@ -4,10 +4,9 @@ use Rattle.std.proofs.lemmas.Bool.{cases_eq, cases_lt, ne_eqb, eq-eqb}
 use Rattle.std.proofs.lemmas.List.{get_or-set_same, get_or-set_other, length-set, length_push, get_or_default, get_or_past}
 use Rattle.std.proofs.lemmas.List.Sums.{count_by-le-length}
 use Rattle.std.proofs.lemmas.List.Folds.{list_any-append}
-use Rattle.std.specs.Prelude.{if◌then◌else◌, slice_index_or, slice_set, replicate, Option, Some, None}
+use Rattle.std.specs.Prelude.{if◌then◌else◌, slice_index_or, slice_set, replicate, Option, Some}
 use Rattle.std.specs.List.{filter, list_any}
 use Rattle.sps_pass_two.specs.Assembled.{PlacedText}
-use Rattle.sps_pass_one.specs.Layout.{most_statements}
 use Rattle.console_debug.specs.declared.breaks.Breaks.{Breaks}
 use Rattle.console_debug.specs.Breakpoints.{AreNumbers, HasTables, count_at, is_set, set_from, set_now, since_of, times_set}
 use Rattle.console_debug.specs.Places.{has_break, is_at, statement_address}

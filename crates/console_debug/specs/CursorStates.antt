@@ -1,5 +1,5 @@
 -- Where a session stands among the places of a run, and what a move on by one place does.
-use Rattle.std.specs.Prelude.{ℕ, suc, Bool, ◌≡◌, ◌+◌, ◌-◌, ◌*◌, ◌<◌, ◌≤◌, ◌⊎◌, true, false, max, nat_lt, All, List, length, slice_get, Option, Some, None, IfSome, option_map}
+use Rattle.std.specs.Prelude.{ℕ, suc, Bool, ◌≡◌, ◌+◌, ◌-◌, ◌*◌, ◌<◌, ◌≤◌, ◌⊎◌, true, false, max, All, List, length, slice_get, Option, Some, None, IfSome, option_map}
 use Rattle.digit_core.specs.Mixed.{AgreeOutside}
 use Rattle.digit_core.specs.Size.{size}
 use Rattle.outside_io.specs.World.{Seen, Rose}
@@ -130,12 +130,6 @@ Advances m limit old new end.Acted = MovesOn m limit Acted old new
 Advances m limit old new end.Stepped = MovesOn m limit Stepped old new
 Advances m limit old new (end.Ended ending.Failed) = BreaksOn m limit old new
 Advances m limit old new (end.Ended how) = StaysOn m limit how old new
-
--- a kept place was gone to, and whether its count is the greater one
-pub record GoesToKept (m : ℕ) (old new : Machine m) (steps count : ℕ) (stepped : Bool) (k : Kept) : Type 0 where
-  pub machine : new ≡ machine_at m k old
-  pub count_is : count ≡ k.steps
-  pub by_step : stepped ≡ nat_lt steps k.steps
 
 -- it went so many places back
 pub record GoesBack (m limit k : ℕ) (old new : CursorState m) : Type 0 where

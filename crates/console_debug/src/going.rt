@@ -1,5 +1,5 @@
 // What the commands do that move along the run, and their lines.
-ghost use Rattle.std.specs.Prelude.{◌<◌, ℕ, List, true, length};
+ghost use Rattle.std.specs.Prelude.{◌≡◌, ◌<◌, ℕ, IfSome, List, true, length};
 ghost use Rattle.sps_listing.specs.Listing.{placed_texts};
 ghost use Rattle.sps_pass_two.specs.Assembled.{PlacedText};
 ghost use Rattle.console_debug.specs.Breakpoints.{HasTables, set_now};
@@ -86,6 +86,7 @@ impl<const M: u32> Cursor<'_, '_, M> {
             let before = debugger_state M (cursor_state_of M self.old (H.seen host.old)) breaks in
             let after = debugger_state M (cursor_state_of M self.new (H.seen host.new)) breaks in
             StepsOver M self.old.run.limit placed count before after result }
+        ensures furthest { IfSome result (λ left. 0 < left → self.new.behind ≡ 0) }
     {
         let mut left = count;
         let mut ir = self.run.machine.regs.ir;
@@ -116,7 +117,9 @@ impl<const M: u32> Cursor<'_, '_, M> {
     fn make_step<H: Host>(&mut self, host: &mut H) -> Sent
         requires sound { IsFit M self.old.run.limit (cursor_state_of M self.old (H.seen host.old)) }
         requires next { IsStepAhead M self.old.run.limit (cursor_state_of M self.old (H.seen host.old)) true }
+        requires furthest { self.old.behind ≡ 0 }
         ensures same { IsSameCursor M self.old self.new }
+        ensures furthest { self.new.behind ≡ 0 }
         ensures carries { (placed : List PlacedText) (breaks : List ℕ) →
             let before = debugger_state M (cursor_state_of M self.old (H.seen host.old)) breaks in
             let after = debugger_state M (cursor_state_of M self.new (H.seen host.new)) breaks in

@@ -1,5 +1,5 @@
 // How the places of a run are gone over, up to a stop or to a step.
-ghost use Rattle.std.specs.Prelude.{◌≡◌, ◌<◌, IfSome, length, slice_get};
+ghost use Rattle.std.specs.Prelude.{◌≡◌, ◌<◌, IfSome, false, length, slice_get};
 ghost use Rattle.outside_io.specs.World.{Seen};
 ghost use Rattle.sps_listing.specs.Listing.{placed_texts};
 ghost use Rattle.console_debug.specs.Breakpoints.{HasTables, set_now};
@@ -93,6 +93,7 @@ impl<const M: u32> Cursor<'_, '_, M> {
         requires few { self.old.behind < length self.old.rewind.now }
         requires tables { HasTables (placed_texts assembled.now) breaks.now }
         ensures same { IsSameCursor M self.old self.new }
+        ensures furthest { result ≡ false → self.new.behind ≡ 0 }
         ensures stops { (seen : Seen) →
             let before = cursor_state_of M self.old seen in
             let after = cursor_state_of M self.new seen in
@@ -106,17 +107,12 @@ impl<const M: u32> Cursor<'_, '_, M> {
             let count = self.rewind.count_at(i);
             behind -= 1;
             if count > steps && self.is_kept_stop(i, assembled, breaks) {
-                self.behind = behind;
-                self.go_to_kept(i);
+                self.go_up_to(behind);
                 return true;
             }
             steps = count;
         }
-        if self.behind > 0 {
-            let newest = self.rewind.len() - 1;
-            self.behind = 0;
-            self.go_to_kept(newest);
-        }
+        self.go_up_to(0);
         false
     }
 
@@ -135,10 +131,12 @@ impl<const M: u32> Cursor<'_, '_, M> {
         )
     }
 
-    // On to the place of the next step, or to the end of the run.
+    // From the furthest place on to that of the next step, or to the end of the run.
     pub(crate) fn to_step<H: Host>(&mut self, host: &mut H) -> Came
-        requires { IsFit M self.old.run.limit (cursor_state_of M self.old (H.seen host.old)) }
+        requires fit { IsFit M self.old.run.limit (cursor_state_of M self.old (H.seen host.old)) }
+        requires furthest { self.old.behind ≡ 0 }
         ensures same { IsSameCursor M self.old self.new }
+        ensures furthest { self.new.behind ≡ 0 }
         ensures steps { let before = cursor_state_of M self.old (H.seen host.old) in
             let after = cursor_state_of M self.new (H.seen host.new) in
             ToStep M self.old.run.limit before after result }

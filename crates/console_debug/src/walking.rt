@@ -2,7 +2,7 @@
 ghost use Rattle.std.specs.Prelude.{◌≡◌, ℕ, ◌<◌, ◌≤◌, ◌+◌, ◌-◌, IfSome, length, slice_get};
 ghost use Rattle.outside_io.specs.World.{Seen};
 ghost use Rattle.operator_script.specs.Run.{IsSameRun, standing_of};
-ghost use Rattle.console_debug.specs.CursorStates.{Advances, Backs, GoesToKept, IsAtKept, IsFit, IsSameCursor, IsStepAhead, IsThere, KeepsScriptAndPlaces, cursor_state_at, cursor_state_of};
+ghost use Rattle.console_debug.specs.CursorStates.{Advances, Backs, IsAtKept, IsFit, IsSameCursor, IsStepAhead, IsThere, KeepsScriptAndPlaces, cursor_state_at, cursor_state_of};
 
 use crate::keeping::keep_step;
 use operator_script::{Run, TurnEnd};
@@ -19,42 +19,17 @@ pub(crate) struct Cursor<'r, 'k, const M: u32> {
 }
 
 impl<const M: u32> Cursor<'_, '_, M> {
-    // On by one place. From the furthest place on it is made by a turn, and kept; else the kept place behind is gone to, as the turn did
-    // that led there.
+    // On by one place from the furthest on, where it stands: a turn is made, and the place to which it led is kept.
     pub(crate) fn advance<H: Host>(&mut self, host: &mut H) -> TurnEnd
-        requires { IsFit M self.old.run.limit (cursor_state_of M self.old (H.seen host.old)) }
+        requires fit { IsFit M self.old.run.limit (cursor_state_of M self.old (H.seen host.old)) }
+        requires furthest { self.old.behind ≡ 0 }
         ensures same { IsSameCursor M self.old self.new }
+        ensures furthest { self.new.behind ≡ 0 }
         ensures advances { let before = cursor_state_of M self.old (H.seen host.old) in
             let after = cursor_state_of M self.new (H.seen host.new) in
             Advances M self.old.run.limit before after result }
     {
-        if self.behind == 0 {
-            return make_turn(&mut self.run, self.rewind, host);
-        }
-        if self.go_to_next() {
-            TurnEnd::Stepped
-        } else {
-            TurnEnd::Acted
-        }
-    }
-
-    // The kept place behind is gone to; whether a step led there.
-    fn go_to_next(&mut self) -> bool
-        requires some { 0 < self.old.behind }
-        requires few { self.old.behind < length self.old.rewind.now }
-        ensures same { KeepsScriptAndPlaces M self.old self.new }
-        ensures behind { self.new.behind + 1 ≡ self.old.behind }
-        ensures there { IfSome (slice_get self.old.rewind.now (length self.old.rewind.now - self.old.behind))
-            (GoesToKept M self.old.run.machine.now self.new.run.machine.now self.old.run.steps self.new.run.steps result) }
-    {
-        let i = self.rewind.len() - self.behind;
-        let count = self.rewind.count_at(i);
-        let stepped = count > self.run.steps;
-        let machine = &mut *self.run.machine;
-        self.rewind.restore(i, machine);
-        self.run.steps = count;
-        self.behind -= 1;
-        stepped
+        make_turn(&mut self.run, self.rewind, host)
     }
 
     // So many places back, where as many are kept before the one where it stands; whether it went there.
@@ -104,15 +79,12 @@ impl<const M: u32> Cursor<'_, '_, M> {
         }
     }
 
-    // Whether a step comes next.
+    // Whether a step comes next, behind the furthest place.
     pub(crate) fn is_step_ahead(&self) -> bool
-        requires { self.now.behind < length self.now.rewind.now }
+        requires { self.now.behind ≡ 0 }
         ensures { (seen : Seen) → IsStepAhead M self.now.run.limit (cursor_state_of M self.now seen) result }
     {
-        if self.behind == 0 {
-            return self.run.is_step_next();
-        }
-        self.rewind.count_at(self.rewind.len() - self.behind) > self.run.steps
+        self.run.is_step_next()
     }
 }
 

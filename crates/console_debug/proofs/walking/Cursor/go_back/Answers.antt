@@ -11,7 +11,7 @@ returns-clause-backs g c = λ seen fit.
     let old = cursor_state_of m c.args.self.now seen in
     let len = c.len.ensures.len in
     let enough : c.args.self.now.behind + c.args.n < length c.args.self.now.rewind.now = omega (arith, len, c.requires.few, c.from.ensures, c.if-n-from.false) in
-    let index : c.len.result - 1 - c.args.self.now.behind - c.args.n ≡ length c.args.self.now.rewind.now - 1 - c.args.self.now.behind - c.args.n = omega (arith, len) in
+    let index : c.len.result - 1 - c.args.self.now.behind - c.args.n ≡ length c.args.self.now.rewind.now - 1 - (c.args.self.now.behind + c.args.n) = omega (arith, len) in
     let gone = c.go_to_kept.ensures in
     rw (gone.same.1, gone.same.2, gone.behind)
     (went_back m c.args.self.now.run.limit c.args.n old c.go_to_kept.new.self.run.machine.now c.go_to_kept.new.self.run.steps fit enough

@@ -1,13 +1,11 @@
 -- One step after another.
-use Rattle.std.proofs.Common.{◌≡◌, ◌∙◌, ◌<◌, ℕ, suc, ◌+◌, ◌-◌, List, [], refl, sym, ap, subst, arith, lit<}
+use Rattle.std.proofs.Common.{◌≡◌, ◌∙◌, ◌<◌, ℕ, suc, ◌+◌, ◌-◌, List, [], sym, subst, arith, lit<}
 use Rattle.outside_io.specs.declared.host.Unit.TheVariants as units
-use Rattle.outside_io.specs.declared.whole.Sent.TheVariants as sent
 use Rattle.outside_io.specs.Whole.{Sends}
 use Rattle.console_debug.specs.Session.{steps}
 use Rattle.console_debug.specs.CursorStates.{cursor_state_of}
 use Rattle.console_debug.specs.Carries.{debugger_state, Underway}
-use Rattle.console_debug.proofs.DebuggerStates.{goes_on, ends_with}
-use Rattle.console_debug.proofs.StepByStep.{then_steps, steps_left, steps_done, stepped_out, step_broke, to_a_step, step_then, step_failed}
+use Rattle.console_debug.proofs.StepByStep.{steps_done, stepped_out, step_broke, step_then, step_failed}
 use Rattle.console_debug.proofs.walking.Cursor.step.Goals as goal
 
 one_left : (count i : ℕ) → i < count → count - i ≡ suc (count - (i + 1))
@@ -18,6 +16,7 @@ loop-step-init g c =
     let same = c.step_kept.ensures.same in
     record {
       same = same;
+      furthest = c.in-Some.ensures.furthest;
       under = λ placed breaks.
           let m = g.row.M in
           let all : c.in-Some.left ≡ c.in-Some.left - 0 = omega arith in
@@ -31,57 +30,52 @@ pub returns-in-None-clause-carries : goal.returns-in-None-clause-carries
 returns-in-None-clause-carries g c = λ placed breaks. c.in-None.ensures.carries placed breaks
 
 pub to_step-requires : goal.to_step-requires
-to_step-requires g c = (lit< tt, (c.loop-step.invariant.under [] []).fit)
+to_step-requires g c = (lit< tt, ((c.loop-step.invariant.under [] []).fit, c.loop-step.invariant.furthest (omega (arith, c.loop-step-test.true))))
 
 pub make_step-requires : goal.make_step-requires
 make_step-requires g c =
     let there = c.in-There.ensures.steps in
     let limit = c.to_step.ensures.same.0.2 in
-    (lit< tt, (rw limit there.fit, rw limit there.next))
+    (lit< tt, (rw limit there.fit, (rw limit there.next, c.to_step.ensures.furthest)))
 
 pub returns-in-End-clause-carries : goal.returns-in-End-clause-carries
 returns-in-End-clause-carries g c = λ placed breaks.
     let m = g.row.M in
-    let limit = c.loop-step.self.run.limit in
-    let n = c.in-Some.left - (c.loop-step._step + 1) in
-    let all = steps c.args.count in
+    let left = c.in-Some.left in
+    let i = c.loop-step._step in
     let first = debugger_state m (cursor_state_of m c.args.self.now (g.H.Host.seen c.args.host.now)) breaks in
     let here = cursor_state_of m c.loop-step.self (g.H.Host.seen c.loop-step.host) in
     let there = cursor_state_of m c.to_step.new.self (g.H.Host.seen c.to_step.new.host) in
     let after = g.H.Host.seen c.write_all.new.host in
-    let under = steps_left m limit placed (c.in-Some.left - c.loop-step._step) (suc n) all first (debugger_state m here breaks) (one_left c.in-Some.left c.loop-step._step c.loop-step-test.true) (c.loop-step.invariant.under placed breaks) in
     rw (sym c.loop-step.invariant.same.0.2)
-    (ends_with m limit placed all (steps (suc n)) first (debugger_state m here breaks) (debugger_state m (record there { seen = after }) breaks) c.write_all.result under
-    (stepped_out m limit placed n breaks here there c.in-End.how after c.write_all.result c.in-End.ensures.steps
-    (subst (λ (text : List ℕ). Sends there.seen after units.Report text c.write_all.result) (c.as_bytes.ensures.value ∙ c.deref.ensures.0 ∙ c.ending_line-line.ensures) c.write_all.ensures)))
+    (stepped_out m c.loop-step.self.run.limit placed breaks (steps c.args.count) first (left - i) (left - (i + 1)) here there (one_left left i c.loop-step-test.true) (c.loop-step.invariant.under placed breaks)
+    c.in-End.how after c.write_all.result c.in-End.ensures.steps
+    (subst (λ (text : List ℕ). Sends there.seen after units.Report text c.write_all.result) (c.as_bytes.ensures.value ∙ c.deref.ensures.0 ∙ c.ending_line-line.ensures) c.write_all.ensures))
 
 pub returns-in-Fault-clause-carries : goal.returns-in-Fault-clause-carries
 returns-in-Fault-clause-carries g c = λ placed breaks.
     let m = g.row.M in
-    let limit = c.loop-step.self.run.limit in
-    let n = c.in-Some.left - (c.loop-step._step + 1) in
-    let all = steps c.args.count in
+    let left = c.in-Some.left in
+    let i = c.loop-step._step in
     let first = debugger_state m (cursor_state_of m c.args.self.now (g.H.Host.seen c.args.host.now)) breaks in
     let here = cursor_state_of m c.loop-step.self (g.H.Host.seen c.loop-step.host) in
     let there = cursor_state_of m c.to_step.new.self (g.H.Host.seen c.to_step.new.host) in
-    let under = steps_left m limit placed (c.in-Some.left - c.loop-step._step) (suc n) all first (debugger_state m here breaks) (one_left c.in-Some.left c.loop-step._step c.loop-step-test.true) (c.loop-step.invariant.under placed breaks) in
     rw (sym c.loop-step.invariant.same.0.2)
-    (ends_with m limit placed all (steps (suc n)) first (debugger_state m here breaks) (debugger_state m there breaks) sent.Failed under (step_broke m limit placed n breaks here there c.in-Fault.ensures.steps))
+    (step_broke m c.loop-step.self.run.limit placed breaks (steps c.args.count) first (left - i) (left - (i + 1)) here there (one_left left i c.loop-step-test.true) (c.loop-step.invariant.under placed breaks)
+    c.in-Fault.ensures.steps)
 
 pub returns-in-Failed-clause-carries : goal.returns-in-Failed-clause-carries
 returns-in-Failed-clause-carries g c = λ placed breaks.
     let m = g.row.M in
-    let limit = c.loop-step.self.run.limit in
-    let n = c.in-Some.left - (c.loop-step._step + 1) in
-    let all = steps c.args.count in
+    let left = c.in-Some.left in
+    let i = c.loop-step._step in
     let first = debugger_state m (cursor_state_of m c.args.self.now (g.H.Host.seen c.args.host.now)) breaks in
     let here = cursor_state_of m c.loop-step.self (g.H.Host.seen c.loop-step.host) in
     let there = cursor_state_of m c.to_step.new.self (g.H.Host.seen c.to_step.new.host) in
     let last = cursor_state_of m c.make_step.new.self (g.H.Host.seen c.make_step.new.host) in
-    let under = steps_left m limit placed (c.in-Some.left - c.loop-step._step) (suc n) all first (debugger_state m here breaks) (one_left c.in-Some.left c.loop-step._step c.loop-step-test.true) (c.loop-step.invariant.under placed breaks) in
-    let on = goes_on m limit placed all (steps (suc n)) (then_steps m limit placed n breaks here there) first (debugger_state m here breaks) (debugger_state m there breaks) under (to_a_step m limit placed n breaks here there c.in-There.ensures.steps) in
     rw (sym c.loop-step.invariant.same.0.2)
-    (step_failed m limit placed n breaks here there all first (debugger_state m last breaks) on (rw (c.to_step.ensures.same.0.2) at c.in-Failed.ensures.carries placed breaks))
+    (step_failed m c.loop-step.self.run.limit placed breaks (steps c.args.count) first (left - i) (left - (i + 1)) here there (one_left left i c.loop-step-test.true) (c.loop-step.invariant.under placed breaks)
+    c.in-There.ensures.steps (debugger_state m last breaks) (rw (c.to_step.ensures.same.0.2) at c.in-Failed.ensures.carries placed breaks))
 
 pub loop-step-preserved : goal.loop-step-preserved
 loop-step-preserved g c =
@@ -90,19 +84,18 @@ loop-step-preserved g c =
     let made = c.in-Done.ensures.same in
     record {
       same = ((made.0.0 ∙ to.0.0 ∙ same.0.0, made.0.1 ∙ to.0.1 ∙ same.0.1, made.0.2 ∙ to.0.2 ∙ same.0.2), made.1 ∙ to.1 ∙ same.1);
+      furthest = λ some. c.in-Done.ensures.furthest;
       under = λ placed breaks.
           let m = g.row.M in
-          let limit = c.loop-step.self.run.limit in
-          let n = c.in-Some.left - (c.loop-step._step + 1) in
-          let all = steps c.args.count in
+          let left = c.in-Some.left in
+          let i = c.loop-step._step in
           let first = debugger_state m (cursor_state_of m c.args.self.now (g.H.Host.seen c.args.host.now)) breaks in
           let here = cursor_state_of m c.loop-step.self (g.H.Host.seen c.loop-step.host) in
           let there = cursor_state_of m c.to_step.new.self (g.H.Host.seen c.to_step.new.host) in
           let last = cursor_state_of m c.make_step.new.self (g.H.Host.seen c.make_step.new.host) in
-          let under = steps_left m limit placed (c.in-Some.left - c.loop-step._step) (suc n) all first (debugger_state m here breaks) (one_left c.in-Some.left c.loop-step._step c.loop-step-test.true) (c.loop-step.invariant.under placed breaks) in
-          let on = goes_on m limit placed all (steps (suc n)) (then_steps m limit placed n breaks here there) first (debugger_state m here breaks) (debugger_state m there breaks) under (to_a_step m limit placed n breaks here there c.in-There.ensures.steps) in
           rw (made.0.2, to.0.2)
-          (step_then m limit placed n breaks here there all first (debugger_state m last breaks) on (rw (to.0.2) at c.in-Done.ensures.carries placed breaks));
+          (step_then m c.loop-step.self.run.limit placed breaks (steps c.args.count) first (left - i) (left - (i + 1)) here there (one_left left i c.loop-step-test.true) (c.loop-step.invariant.under placed breaks)
+          c.in-There.ensures.steps (debugger_state m last breaks) (rw (to.0.2) at c.in-Done.ensures.carries placed breaks));
     }
 
 pub returns-clause-carries : goal.returns-clause-carries

@@ -12,7 +12,7 @@ invariant-loop-behind g l = record {
   same : l.self ≡ l.initial.self;
   before : l.behind ≤ l.initial.self.behind;
   looks : (seen : Seen) → IsFit g.row.M l.initial.self.run.limit (cursor_state_of g.row.M l.initial.self seen)
-      → LooksOn g.row.M l.initial.self.run.limit (placed_texts l.assembled) (set_now l.breaks) l.initial.self.run.machine.now l.initial.self.run.script.now l.initial.self.run.steps l.initial.self.rewind.now l.initial.self.behind seen l.steps l.behind;
+      → LooksOn g.row.M l.initial.self.run.limit (placed_texts l.assembled) (set_now l.breaks) (cursor_state_of g.row.M l.initial.self seen) l.steps l.behind;
 }
 
 abbrev pub decreases-loop-behind : goal.decreases-loop-behind

@@ -7,7 +7,8 @@ use Rattle.console_debug.proofs.walking.Cursor.to_step.Goals as goal
 pub loop-self-init : goal.loop-self-init
 loop-self-init g c = record {
   same = ((refl, refl, refl), refl);
-  heads = sets_out g.row.M c.args.self.now.run.limit (cursor_state_of g.row.M c.args.self.now (g.H.Host.seen c.args.host.now)) c.requires;
+  furthest = c.requires.furthest;
+  heads = sets_out g.row.M c.args.self.now.run.limit (cursor_state_of g.row.M c.args.self.now (g.H.Host.seen c.args.host.now)) c.requires.fit;
 }
 
 pub returns-then-is_step_ahead-clause-steps : goal.returns-then-is_step_ahead-clause-steps
@@ -21,6 +22,7 @@ loop-self-preserved g c =
     let next = c.advance.ensures.same in
     record {
       same = ((next.0.0 ∙ same.0.0, next.0.1 ∙ same.0.1, next.0.2 ∙ same.0.2), next.1 ∙ same.1);
+      furthest = c.advance.ensures.furthest;
       heads = rw (next.0.2)
           (moves_on g.row.M c.loop-self.self.run.limit _ _ (cursor_state_of g.row.M c.advance.new.self (g.H.Host.seen c.advance.new.host)) c.loop-self.invariant.heads c.advance.result
           (rw (c.if-is_step_ahead.false) at c.is_step_ahead.ensures (g.H.Host.seen c.loop-self.host)) c.in-Acted.is c.advance.ensures.advances).0;

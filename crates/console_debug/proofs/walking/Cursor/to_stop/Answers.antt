@@ -15,6 +15,7 @@ loop-how-init g c =
     let same = c.to_kept_stop.ensures.same in
     record {
       same = same;
+      furthest = c.to_kept_stop.ensures.furthest c.if-to_kept_stop.false;
       fit = rw (same.0.2) passes.fit;
       heads = rw (same.0.2) passes;
     }
@@ -25,6 +26,7 @@ loop-how-preserved-in-Acted g c =
     let next = c.advance.ensures.same in
     record {
       same = ((next.0.0 ∙ same.0.0, next.0.1 ∙ same.0.1, next.0.2 ∙ same.0.2), next.1 ∙ same.1);
+      furthest = c.advance.ensures.furthest;
       fit = rw (next.0.2) c.in-Acted.ensures.advances.fit;
       heads = rw (next.0.2) (acted_on (placed_texts c.args.assembled.now) (set_now c.args.breaks.now) g.row.M c.loop-how.self.run.limit _ _ _ c.loop-how.invariant.heads c.in-Acted.ensures.advances);
     }
@@ -43,6 +45,7 @@ loop-how-preserved g c =
     let next = c.advance.ensures.same in
     record {
       same = ((next.0.0 ∙ same.0.0, next.0.1 ∙ same.0.1, next.0.2 ∙ same.0.2), next.1 ∙ same.1);
+      furthest = c.advance.ensures.furthest;
       fit = rw (next.0.2) c.in-Stepped.ensures.advances.fit;
       heads = rw (next.0.2)
           (stepped_on (placed_texts c.args.assembled.now) (set_now c.args.breaks.now) g.row.M c.loop-how.self.run.limit _ _ _ c.loop-how.invariant.heads (sym c.is_at_break.ensures ∙ c.if-is_at_break.false) c.in-Stepped.ensures.advances);
