@@ -1,7 +1,7 @@
 -- What is left of a strip or a fill, against the whole of it.
-use Rattle.std.proofs.Common.{refl, ℕ, suc, ◌≡◌, ◌+◌, ◌-◌, ◌*◌, ◌/◌, ◌<◌, ◌≤◌, ◌==◌, inl, inr, min, true, false, List, Ok, Err, arith}
+use Rattle.std.proofs.Common.{refl, ℕ, suc, ◌≡◌, ◌+◌, ◌-◌, ◌*◌, ◌<◌, ◌≤◌, inl, inr, min, true, false, List, Ok, Err, arith}
 use Rattle.std.proofs.lemmas.Bool.{cases_lt}
-use Rattle.std.specs.Prelude.{⊤, if◌then◌else◌}
+use Rattle.std.specs.Prelude.{⊤}
 use Rattle.digit_core.specs.declared.Digit.{Digit}
 use Rattle.digit_core.specs.Cell.{store, with_flag}
 use Rattle.addr_indirect.specs.declared.Stop.{Stop}
@@ -9,8 +9,8 @@ use Rattle.addr_indirect.specs.declared.Stop.TheVariants.{Address}
 use Rattle.addr_indirect.specs.Reading.{read_at}
 use Rattle.traces.specs.Trace.{Trace}
 use Rattle.traces.specs.Stored.{Stored, Did, Rest}
-use Rattle.feature_ops.specs.declared.TheConstants.{NUMBER_ZONE, NEGATIVE_ZONE}
-use Rattle.feature_ops.specs.Feature.{move_flag, strip_cycles, strip, fill_cycles, fill, core_with_pair}
+use Rattle.feature_ops.specs.declared.TheConstants.{NUMBER_ZONE}
+use Rattle.feature_ops.specs.Feature.{move_flag, strip_cycles, fill_cycles, core_with_pair}
 
 -- the number of positions left behind so many cycles
 pub left_more : (a i : ℕ) → i < a → a - i ≡ suc (a - i - 1)
@@ -22,9 +22,6 @@ left_none a i l = omega arith
 pub left_next : (a i : ℕ) → a - (i + 1) ≡ a - i - 1
 left_next a i = omega arith
 
-pub left_all : (a : ℕ) → a - 0 ≡ a
-left_all a = omega arith
-
 module _ (core : List ℕ) (p q : ℕ) where
   pub flag_unread : (s : Stop) → read_at core q ≡ Err s → Did core (move_flag core p q) core (Err s)
   flag_unread s stops = rw stops (record { leaves = refl; answers = refl })
@@ -35,32 +32,6 @@ module _ (core : List ℕ) (p q : ℕ) where
   pub flag_moved : (from to : Digit) → read_at core q ≡ Ok from → read_at core p ≡ Ok to →
       Did core (move_flag core p q) (store (store core p (with_flag from.flag to)) q (with_flag false from)) (Ok tt)
   flag_moved from to reads places = rw (reads, places) (record { leaves = refl; answers = refl })
-
-  -- the zone of P's units, P's units or Q's units are not read
-  pub zone_stop : (s : Stop) → read_at core (p - 1) ≡ Err s → Did core (strip core p q) core (Err s)
-  zone_stop s stops = rw stops (record { leaves = refl; answers = refl })
-
-  module _ (zone : Digit) (zones : read_at core (p - 1) ≡ Ok zone) where
-    pub from_stop : (s : Stop) → read_at core p ≡ Err s → Did core (strip core p q) core (Err s)
-    from_stop s stops = rw (zones, stops) (record { leaves = refl; answers = refl })
-
-    module _ (from : Digit) (reads : read_at core p ≡ Ok from) where
-      pub to_stop : (s : Stop) → read_at core q ≡ Err s → Did core (strip core p q) core (Err s)
-      to_stop s stops = rw (zones, reads, stops) (record { leaves = refl; answers = refl })
-
-      -- the units are stripped
-      pub units_stripped : (to : Digit) → read_at core q ≡ Ok to →
-          Rest (store core q (with_flag (zone.value == NEGATIVE_ZONE) from)) (strip_cycles (store core q (with_flag (zone.value == NEGATIVE_ZONE) from)) (p / 2) q) core (strip core p q)
-      units_stripped to olds = rw (zones, reads, olds) (record { leaves = refl; answers = refl })
-
-  -- the units are not read
-  pub units_stop : (s : Stop) → read_at core q ≡ Err s → Did core (fill core p q) core (Err s)
-  units_stop s stops = rw stops (record { leaves = refl; answers = refl })
-
-  -- a core in which a digit and its zone are stored
-  pub units_filled : (d : Digit) → read_at core q ≡ Ok d →
-      Rest (core_with_pair core (p - 1) (if d.flag then NEGATIVE_ZONE else NUMBER_ZONE) d.value) (fill_cycles (core_with_pair core (p - 1) (if d.flag then NEGATIVE_ZONE else NUMBER_ZONE) d.value) (p / 2) q) core (fill core p q)
-  units_filled d reads = rw reads (record { leaves = refl; answers = refl })
 
 module _ (core core0 : List ℕ) (t0 : Trace Stored ⊤ Stop) (pairs q i : ℕ) where
   -- a strip's cycles, behind so many of them

@@ -25,9 +25,6 @@ module _ (a b c d e : ℕ) (la : a < 64) (lb : b < 64) (lc : c < 64) (ld : d < 6
   pub fifth : five / 16777216 % 64 ≡ e
   fifth = omega arith
 
-  pub small : five < 1073741824
-  small = omega arith
-
 module _ (a b c d e : ℕ) (la : a < 64) (lb : b < 64) (lc : c < 64) (ld : d < 64) (le : e < 64) where
   -- no shifted cell grows out of a word
   abbrev pub shifted : ℕ
