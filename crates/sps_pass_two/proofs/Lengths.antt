@@ -1,5 +1,5 @@
 -- A statement that breaks no rule declares as many digits as its place says, and they lie within the image.
-use Rattle.std.proofs.Common.{◌≡◌, ℕ, zero, suc, ◌+◌, ◌-◌, ◌*◌, ◌≤◌, ◌==◌, ◌&&◌, ◌||◌, ◌⊎◌, inl, inr, Bool, true, false, not, List, [], ◌∷◌, ◌++◌, length, take, drop, replicate, refl, ap, ◌∙◌, arith, Option, Some, None, is_some, Result, Ok, Err, nat_lt}
+use Rattle.std.proofs.Common.{◌≡◌, ℕ, zero, suc, ◌+◌, ◌-◌, ◌*◌, ◌≤◌, ◌==◌, ◌&&◌, ◌⊎◌, inl, inr, Bool, true, false, not, List, [], ◌∷◌, ◌++◌, length, take, drop, replicate, refl, ap, ◌∙◌, arith, Option, Some, None, is_some, Result, Ok, Err, nat_lt}
 use Rattle.std.specs.Prelude.{ℤ, pos, negsuc, int_le, nat_abs, option_map, unwrap_or, ⊤}
 use Rattle.std.proofs.lemmas.Bool.Decides.{nat_tests}
 use Rattle.std.proofs.lemmas.List.{length-append, length-replicate, length-take}
@@ -33,7 +33,7 @@ use Rattle.sps_pass_one.specs.declared.place.Placing.{Placing}
 use Rattle.sps_pass_one.specs.Faults.{broken_if, broken_at_if}
 use Rattle.sps_pass_one.specs.Measure.{Answer, Measure, answer, in_bounds, read_as, is_even, part_at, lacks, measure, form_of, size_of, length_ask, text_length_ask, address_ask, or_bad_length, lacking_faults}
 use Rattle.sps_pass_one.specs.Placing.{listed_count, count_of, declared_size, field_placing, declared_placing, placing_of}
-use Rattle.sps_pass_one.specs.Layout.{State, PassStep, state_before_next, statements, counts_if, operation_of, earlier_symbols, placing, placing_if, place_by_placing, statement_place, for_layout}
+use Rattle.sps_pass_one.specs.Layout.{State, PassStep, counts_if, operation_of, earlier_symbols, placing, placing_if, place_by_placing, statement_place, for_layout}
 use Rattle.sps_pass_one.proofs.Alike.{measure_alike}
 use Rattle.sps_pass_two.specs.Digits.{last_digits, with_first_flag, last_flagged, address_digits, is_negative, with_flags, constant_of, with_leading_zeros, pair_of, pair_digits, character_digits, characters_digits, with_trailing_blanks, text_digits, no_flags}
 use Rattle.sps_pass_two.specs.Operands.{operand_ask, disk_ask, addresses, address_list, value_or_0, flagged_address, instruction_digits, q_answer, flags_answer, part_digits}
@@ -59,10 +59,6 @@ unbroken_at false rule place h = refl
 is_so : (b : Bool) → not b ≡ false → b ≡ true
 is_so true h = refl
 is_so false h = absurd cc
-
-no_faults : (xs : List Fault) → is_nothing xs ≡ true → xs ≡ []
-no_faults [] h = refl
-no_faults (x ∷ xs) h = absurd cc
 
 -- an operand that must be there and breaks no rule has a value
 record Found (q : Ask) (a : Answer) (r : Result ℤ Rule) : Type 0 where
@@ -208,20 +204,10 @@ length_disk a b c d =
 
 -- what the operands of a declarative make of n
 abbrev SuitsLength : Declarative → StatementText → ℕ → Type 0
-SuitsLength Ds s n = ⊤
-SuitsLength Dss s n = ⊤
-SuitsLength Das s n = ⊤
 SuitsLength Dc s n = 1 ≤ n
 SuitsLength Dsc s n = 1 ≤ n
 SuitsLength Dac s n = length (part_at s 1) ≤ n
-SuitsLength Dsa s n = ⊤
-SuitsLength Dsb s n = ⊤
-SuitsLength Dnb s n = ⊤
-SuitsLength Dgm s n = ⊤
-SuitsLength Dda s n = ⊤
-SuitsLength Dorg s n = ⊤
-SuitsLength Dend s n = ⊤
-SuitsLength Head s n = ⊤
+SuitsLength other s n = ⊤
 
 own_length : (d : Declarative) (scope : Scope) (s : StatementText) (n k positions : ℕ) → SuitsLength d s n → (own_outcome d scope s n positions).faults ≡ [] → length (own_outcome d scope s n positions).digits ≡ declared_size d (count_of d s n) k
 own_length Ds scope s n k positions suits h = refl
@@ -356,47 +342,39 @@ line_fits line h = by_bool (nat_lt 80 (length line))
     (λ t. rw (f, g, t) (none_fits Blank))
     (λ e. rw (f, g, e) (operands_fit line (columns 16 75 line) (lookup_of (columns 12 15 line)) (rw (f, g, e) at h)))))
 
--- a statement that breaks no rule has as many digits as its place says
-pub as_many : (symbols : List SymbolEntry) (positions : ℕ) (x : PassStep) → AreEarlier x.before.symbols symbols x.before.number → x.text ≡ statement_of x.line → (outcome_at symbols positions x).faults ≡ [] → length (outcome_at symbols positions x).digits ≡ (statement_place x).digits
-unfolding statement_outcome placing
-as_many symbols positions x known text h =
-    let active = counts_if x.before.ended x.text.shape in
-    let fits : (operation_of x.text ≡ Some (Declare Dac) → TextFits x.text) = rw text (line_fits x.line) in
-    if_length symbols positions x.before x.text (placing x.before x.text) known active fits
-    (none_second (line_faults x.text.shape x.before.ended x.before.number) (outcome_if active x.before.head symbols (statement_place x) x.before.number x.text positions).faults h)
-
 none_or_inside : (positions from n : ℕ) (ds : List Digit) → length ds ≡ n → is_outside positions from n ≡ false → (ds ≡ []) ⊎ ((100 ≤ from) × (from + length ds ≤ positions))
 none_or_inside positions from n [] e h = inl refl
 none_or_inside positions from n (d ∷ ds) e h = inr (grind (arith, nat_tests), grind (arith, nat_tests))
 
-stands_inside : (symbols : List SymbolEntry) (positions : ℕ) (x : PassStep) → AreEarlier x.before.symbols symbols x.before.number → (outcome_at symbols positions x).faults ≡ [] → ((outcome_at symbols positions x).digits ≡ []) ⊎ (is_outside positions (first_address (operation_of x.text) (statement_place x)) (statement_place x).digits ≡ false)
-unfolding statement_outcome
-stands_inside symbols positions x known h =
-    let active = counts_if x.before.ended x.text.shape in
-    if_inside symbols positions x.before x.text (placing x.before x.text) known active
-    (none_second (line_faults x.text.shape x.before.ended x.before.number) (outcome_if active x.before.head symbols (statement_place x) x.before.number x.text positions).faults h)
+-- a statement that breaks no rule
+module _ (symbols : List SymbolEntry) (positions : ℕ) (x : PassStep) (known : AreEarlier x.before.symbols symbols x.before.number) (text : x.text ≡ statement_of x.line) (h : (outcome_at symbols positions x).faults ≡ []) where
+  abbrev active : Bool
+  active = counts_if x.before.ended x.text.shape
 
-within : (positions from n : ℕ) (ds : List Digit) → length ds ≡ n → (ds ≡ []) ⊎ (is_outside positions from n ≡ false) → (ds ≡ []) ⊎ ((100 ≤ from) × (from + length ds ≤ positions))
-within positions from n ds e (inl none) = inl none
-within positions from n ds e (inr h) = none_or_inside positions from n ds e h
+  abbrev from : ℕ
+  from = first_address (operation_of x.text) (statement_place x)
 
--- if it has any, they lie within the image
-pub lies_within : (symbols : List SymbolEntry) (positions : ℕ) (x : PassStep) → AreEarlier x.before.symbols symbols x.before.number → x.text ≡ statement_of x.line → (outcome_at symbols positions x).faults ≡ [] → ((outcome_at symbols positions x).digits ≡ []) ⊎ ((100 ≤ first_address (operation_of x.text) (statement_place x)) × (first_address (operation_of x.text) (statement_place x) + length (outcome_at symbols positions x).digits ≤ positions))
-lies_within symbols positions x known text h =
-    within positions (first_address (operation_of x.text) (statement_place x)) (statement_place x).digits (outcome_at symbols positions x).digits (as_many symbols positions x known text h) (stands_inside symbols positions x known h)
+  abbrev ds : List Digit
+  ds = (outcome_at symbols positions x).digits
 
-pub lies_above : (symbols : List SymbolEntry) (positions : ℕ) (x : PassStep) → AreEarlier x.before.symbols symbols x.before.number → x.text ≡ statement_of x.line → (outcome_at symbols positions x).faults ≡ [] → ((outcome_at symbols positions x).digits ≡ []) ⊎ (100 ≤ first_address (operation_of x.text) (statement_place x))
-lies_above symbols positions x known text h = elim (lies_within symbols positions x known text h) [ inl none ↦ inl none | inr both ↦ inr both.0 ]
+  own_unbroken : (outcome_if active x.before.head symbols (statement_place x) x.before.number x.text positions).faults ≡ []
+  unfolding statement_outcome
+  own_unbroken = none_second (line_faults x.text.shape x.before.ended x.before.number) (outcome_if active x.before.head symbols (statement_place x) x.before.number x.text positions).faults h
 
-pub lies_below : (symbols : List SymbolEntry) (positions : ℕ) (x : PassStep) → AreEarlier x.before.symbols symbols x.before.number → x.text ≡ statement_of x.line → (outcome_at symbols positions x).faults ≡ [] → ((outcome_at symbols positions x).digits ≡ []) ⊎ (first_address (operation_of x.text) (statement_place x) + length (outcome_at symbols positions x).digits ≤ positions)
-lies_below symbols positions x known text h = elim (lies_within symbols positions x known text h) [ inl none ↦ inl none | inr both ↦ inr both.1 ]
+  -- it has as many digits as its place says
+  as_many : length ds ≡ (statement_place x).digits
+  unfolding statement_outcome placing
+  as_many =
+      let fits : (operation_of x.text ≡ Some (Declare Dac) → TextFits x.text) = rw text (line_fits x.line) in
+      if_length symbols positions x.before x.text (placing x.before x.text) known active fits own_unbroken
 
--- each of some lines stands as its statement
-abbrev pub AllRead : List PassStep → Type 0
-AllRead [] = ⊤
-AllRead (x ∷ xs) = (x.text ≡ statement_of x.line) × AllRead xs
+  stands_inside : (ds ≡ []) ⊎ (is_outside positions from (statement_place x).digits ≡ false)
+  unfolding statement_outcome
+  stands_inside = if_inside symbols positions x.before x.text (placing x.before x.text) known active own_unbroken
 
-pub all_read : (lines : List (List ℕ)) (st : State) → AllRead (statements st lines)
-unfolding statements
-all_read [] st = tt
-all_read (line ∷ lines) st = (refl, all_read lines (state_before_next st (statement_of line)))
+  -- if it has any, they lie within the image
+  lies_within : (ds ≡ []) ⊎ ((100 ≤ from) × (from + length ds ≤ positions))
+  lies_within = elim stands_inside [ inl none ↦ inl none | inr inside ↦ none_or_inside positions from (statement_place x).digits ds as_many inside ]
+
+  pub lies_above : (ds ≡ []) ⊎ (100 ≤ from)
+  lies_above = elim lies_within [ inl none ↦ inl none | inr both ↦ inr both.0 ]
