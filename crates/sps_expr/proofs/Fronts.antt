@@ -29,9 +29,6 @@ pub mark_tokens : (b : ℕ) (bs : List ℕ) → is_run_byte b ≡ false → toke
 unfolding tokens
 mark_tokens b bs e = rw e
 
-run_here : (c : ℕ) (bs : List ℕ) → is_run_byte c ≡ true → Word (c ∷ run bs) ∷ tokens (past_run bs) ≡ Word (run (c ∷ bs)) ∷ tokens (past_run (c ∷ bs))
-run_here c bs e = rw e
-
 onto_word_on : (b c : ℕ) (bs : List ℕ) → is_run_byte c ≡ true → onto_token b (Word (c ∷ run bs) ∷ tokens (past_run bs)) ≡ Word (b ∷ run (c ∷ bs)) ∷ tokens (past_run (c ∷ bs))
 onto_word_on b c bs e = rw e
 

@@ -5,7 +5,7 @@ use Rattle.std.specs.Option.{option_map}
 use Rattle.sps_expr.specs.declared.by_name.PlacesByName.{PlacesByName}
 use Rattle.sps_expr.specs.declared.symbols.Symbol.{Symbol}
 use Rattle.sps_expr.specs.Symbol.{SymbolEntry, find, place_of_name}
-use Rattle.sps_expr.specs.SymbolList.{entry_of, entries_of_symbols, AreBytes, place_in_maps, HasNoPlace, HasPlaceMore, HasPlacesAsIn, HasPlacesOf}
+use Rattle.sps_expr.specs.SymbolList.{entry_of, entries_of_symbols, AreBytes, place_in_maps, HasNoPlace, HasPlaceMore, HasPlacesOf}
 use Rattle.sps_expr.proofs.Cases.{by_bool, by_option}
 use Rattle.sps_expr.proofs.OneEntry.{not_some, found_here, found_behind}
 
@@ -89,10 +89,6 @@ has_places-push m n es x k has absent more last name bytes =
 pub has_places-empty : (m : PlacesByName) → HasNoPlace m → HasPlacesOf m []
 unfolding place_of_name
 has_places-empty m empty name bytes = empty name
-
--- maps with the same places have those of the same entries
-pub has_places-same : (m n : PlacesByName) (es : List SymbolEntry) → HasPlacesOf m es → HasPlacesAsIn m n → HasPlacesOf n es
-has_places-same m n es has same name bytes = same name ∙ has name bytes
 
 -- what the maps have at a name tells what is found
 module _ (name : List ℕ) (bytes : AreBytes name) (m : PlacesByName) (ss : List Symbol) (has : HasPlacesOf m (entries_of_symbols ss)) where

@@ -46,7 +46,3 @@ module _ (word : List ℕ) (h : 0 < length word) (n : slice_index word 0 ≢ 36)
 
   pub name_plain : 0 < length (rest_of word) → slice_index (rest_of word) 0 ≢ 36 → name_factor word ≡ plain_name word
   name_plain l o = name_behind word _ _ (whole_is word h) n ∙ first_other (slice_index word 0) _ _ _ (whole_is (rest_of word) l) o ∙ ap plain_name (sym (whole_is word h))
-
--- the run is the symbol of the head in front of the `$` and the name behind it
-pub headed_whole : (word : List ℕ) → 0 < length word → 0 < length (rest_of word) → slice_index (rest_of word) 0 ≡ 36 → word ≡ slice_index word 0 ∷ 36 ∷ rest_of (rest_of word)
-headed_whole word h l d = whole_is word h ∙ ap (λ xs. slice_index word 0 ∷ xs) (whole_is (rest_of word) l ∙ ap (λ c. c ∷ rest_of (rest_of word)) d)
