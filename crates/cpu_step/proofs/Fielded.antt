@@ -1,5 +1,5 @@
 -- The operands that the fields of a fetched instruction hold are its operands.
-use Rattle.std.proofs.Common.{ℕ, zero, suc, ◌≡◌, ◌+◌, ◌-◌, ◌*◌, ◌%◌, ◌==◌, ◌<◌, ◌≤◌, ◌||◌, Bool, true, false, List, ◌∷◌, length, Ok, Err, refl, sym, ap, ◌∙◌, arith}
+use Rattle.std.proofs.Common.{ℕ, zero, suc, ◌≡◌, ◌+◌, ◌-◌, ◌*◌, ◌%◌, ◌==◌, ◌<◌, ◌≤◌, ◌||◌, Bool, true, false, List, ◌∷◌, length, Ok, Err, refl, sym, ap, subst, ◌∙◌, arith}
 use Rattle.std.specs.Prelude.{◌&&◌, nat_le, nat_lt, slice_index_or, if◌then◌else◌, Option, Some, None, Result}
 use Rattle.std.proofs.lemmas.Bool.Decides.{nat_tests}
 use Rattle.digit_core.specs.declared.Digit.{Digit}
@@ -15,6 +15,7 @@ use Rattle.addr_indirect.specs.Fetch.{fetch, part}
 use Rattle.addr_indirect.proofs.Chains.{field_stops, field_high, field_ends, field_low, field_on}
 use Rattle.addr_indirect.proofs.Inside.{fetch_inside}
 use Rattle.addr_indirect.proofs.Windows.{field_is}
+use Rattle.instruction_table.specs.declared.MayStore.{MayStore}
 use Rattle.cpu_step.specs.declared.rows.Uses.{Uses}
 use Rattle.cpu_step.specs.declared.rows.Uses.TheVariants.{Both, OddBoth, Immediate, First, OddFirst, Neither}
 use Rattle.cpu_step.specs.declared.rows.Operands.{Operands}
@@ -23,7 +24,8 @@ use Rattle.cpu_step.specs.Fields.{digit_with_above, number_in, kind_of, number_o
 use Rattle.cpu_step.specs.declared.fields.FieldKind.{FieldKind}
 use Rattle.cpu_step.specs.declared.fields.FieldKind.TheVariants as kind
 use Rattle.cpu_step.specs.declared.fields.Fields.{Fields}
-use Rattle.cpu_step.specs.Known.{AreSettled}
+use Rattle.cpu_step.specs.declared.rows.Row.{Row}
+use Rattle.cpu_step.specs.Known.{AreSettled, IsRow}
 
 -- a digit of what was read upwards was read
 module _ (n : ℕ) (core : List ℕ) (a : ℕ) (rest : (ds : List Digit) → read_up core (a + 1) n ≡ Ok ds → (j : ℕ) → j < n → read_at core (a + 1 + j) ≡ Ok (slice_index_or ds j (unflagged_digit 0))) where
@@ -156,16 +158,16 @@ module _ (core : List ℕ) (ir : ℕ) (i : Instr) (there : fetch core ir ≡ Ok 
   none_is : operand_from core ir kind.Address 0 ≡ Ok 0
   none_is = let t : nat_lt 0 (length core) ≡ true = grind (arith, nat_tests, some) in rw t refl
 
-  pub fields_hold : (u : Uses) → HoldOperands u core ir (fields_used u i)
-  fields_hold Both = rw (p_is, q_is) refl
-  fields_hold OddBoth = rw (p_is, q_is) refl
-  fields_hold Immediate = rw p_is refl
-  fields_hold First = rw (p_is, none_is) refl
-  fields_hold OddFirst = rw (p_is, none_is) refl
-  fields_hold Neither = rw none_is refl
+  pub fields_hold : (u : Uses) (stores : MayStore) → HoldOperands u core ir (fields_used u stores i)
+  fields_hold Both stores = rw (p_is, q_is) refl
+  fields_hold OddBoth stores = rw (p_is, q_is) refl
+  fields_hold Immediate stores = rw p_is refl
+  fields_hold First stores = rw (p_is, none_is) refl
+  fields_hold OddFirst stores = rw (p_is, none_is) refl
+  fields_hold Neither stores = rw none_is refl
 
-pub operands_are : (core : List ℕ) (ir : ℕ) (f : Fields) (u : Uses) (i : Instr) → fetch core ir ≡ Ok i → f ≡ fields_used u i → operands_from f core ir ≡ operands u core ir
-operands_are core ir f u i there are = rw are (fields_hold core ir i there u)
+pub operands_are : (core : List ℕ) (ir : ℕ) (f : Fields) (u : Uses) (i : Instr) → fetch core ir ≡ Ok i → f ≡ fields_used u f.stores i → operands_from f core ir ≡ operands u core ir
+operands_are core ir f u i there are = subst (HoldOperands u core ir) (sym are) (fields_hold core ir i there u f.stores)
 
 -- P is no immediate operand
 no_immediate : (m : Option ℕ) (flag : Bool) → kind_of m flag ≡ kind.Immediate → ⊥
@@ -173,9 +175,12 @@ no_immediate None flag e = cc
 no_immediate (Some v) true e = cc
 no_immediate (Some v) false e = cc
 
-pub first_no_immediate : (u : Uses) (i : Instr) → (fields_used u i).p_kind ≡ kind.Immediate → ⊥
-first_no_immediate Neither i e = cc
-first_no_immediate u i e = no_immediate (number_in i 6 5) _ e
+first_no_immediate : (u : Uses) (stores : MayStore) (i : Instr) → (fields_used u stores i).p_kind ≡ kind.Immediate → ⊥
+first_no_immediate Neither stores i e = cc
+first_no_immediate u stores i e = no_immediate (number_in i 6 5) _ e
+
+pub row_no_immediate : (i : Instr) (row : Row) (f : Fields) → IsRow i row f → f.p_kind ≡ kind.Immediate → ⊥
+row_no_immediate i row f is e = first_no_immediate is.uses f.stores i (ap (λ (x : Fields). x.p_kind) (sym is.fields_are) ∙ e)
 
 -- an operand that comes without a chain comes so in every core of this size
 module _ (core : List ℕ) (ir n : ℕ) (long : length core ≡ n) where

@@ -9,16 +9,19 @@ use Rattle.digit_core.specs.Size.{size}
 use Rattle.digit_core.specs.Packed.{six}
 use Rattle.digit_core.specs.Search.{is_bad}
 use Rattle.addr_indirect.specs.declared.Stop.{Stop}
+use Rattle.addr_indirect.specs.declared.Instr.{Instr}
 use Rattle.addr_indirect.specs.declared.Stop.TheVariants.{EvenAlpha}
 use Rattle.addr_indirect.specs.Steps.{◌>>=◌}
 use Rattle.addr_indirect.specs.Fetch.{fetch, opcode}
 use Rattle.addr_indirect.specs.Operands.{p_operand, q_operand}
 use Rattle.addr_indirect.proofs.Windows.{reads_in, up_more, up_none, fetch_is}
+use Rattle.instruction_table.specs.declared.MayStore.{MayStore}
+use Rattle.instruction_table.specs.declared.MayStore.TheVariants.{Nothing}
 use Rattle.branch_ops.specs.declared.BranchOp.TheVariants.{B}
 use Rattle.cpu_step.specs.declared.rows.Row.{Row}
 use Rattle.cpu_step.specs.declared.rows.Row.TheVariants as rows
 use Rattle.cpu_step.specs.declared.rows.Uses.{Uses}
-use Rattle.cpu_step.specs.declared.rows.Uses.TheVariants.{Both, OddBoth, OddFirst}
+use Rattle.cpu_step.specs.declared.rows.Uses.TheVariants.{Both, OddBoth, First, OddFirst}
 use Rattle.cpu_step.specs.declared.rows.Operands.{Operands}
 use Rattle.cpu_step.specs.declared.fields.Fields.{Fields}
 use Rattle.cpu_step.specs.declared.memo.Known.{Known}
@@ -27,11 +30,13 @@ use Rattle.instruction_table.specs.declared.Op.{Op}
 use Rattle.instruction_table.specs.declared.Op.TheVariants as op
 use Rattle.instruction_table.specs.declared.InstructionRow.{InstructionRow}
 use Rattle.instruction_table.specs.Table.{instruction_of, op_of}
-use Rattle.cpu_step.specs.Rows.{row_of_op, row_by_table, instruction_row, row_by, row_of_code, uses}
+use Rattle.cpu_step.specs.Rows.{row_of_op, with_columns, row_by_table, instruction_row, row_by, row_of_code, takes_odd}
+use Rattle.cpu_step.specs.Checks.{wants_odd}
 use Rattle.cpu_step.specs.Act.{operands}
 use Rattle.cpu_step.specs.Fields.{number_in, fields_used, operands_at, HoldOperands}
-use Rattle.cpu_step.specs.Known.{digits_in, instr_at, AreGood, AreTwelve, AreSettled, IsRow, IsKnown, code_in, ComesToRow, ComesTo}
+use Rattle.cpu_step.specs.Known.{digits_in, instr_at, AreGood, AreTwelve, AreSettled, IsRow, IsB, IsKnown, found_with, uses_in, uses_at, code_in, ComesToRow, ComesToB, ComesTo}
 use Rattle.cpu_step.proofs.Fielded.{fields_hold}
+use Rattle.cpu_step.proofs.TableRows.{uses_odd, b_columns}
 
 -- whatever the two tests of a cell say
 tested : (even good : Bool) (d e : Digit) → (if even then Err EvenParity else if good then Ok d else Err BadValue) ≡ Ok e → e ≡ d
@@ -57,44 +62,12 @@ good_reads c h = passed (count_ones c % 2 == 0) (is_value (c % 16)) (digit_of_ce
 -- a row is found by the digits alone, wherever they stand
 module _ (ir low high : ℕ) where
   same_row_of : (o : Op) → row_of_op o (instr_at ir low high) ≡ row_of_op o (instr_at 0 low high)
-  same_row_of op.A = refl
-  same_row_of op.Am = refl
-  same_row_of op.S = refl
-  same_row_of op.Sm = refl
-  same_row_of op.C = refl
-  same_row_of op.Cm = refl
-  same_row_of op.Td = refl
-  same_row_of op.Tdm = refl
-  same_row_of op.Tf = refl
-  same_row_of op.Tfm = refl
-  same_row_of op.Bt = refl
-  same_row_of op.Btm = refl
-  same_row_of op.Tr = refl
-  same_row_of op.Sf = refl
-  same_row_of op.Cf = refl
   same_row_of op.K = refl
-  same_row_of op.Dn = refl
-  same_row_of op.Rn = refl
-  same_row_of op.Ra = refl
-  same_row_of op.Wn = refl
-  same_row_of op.Wa = refl
-  same_row_of op.Nop = refl
-  same_row_of op.Bb = refl
-  same_row_of op.Bd = refl
-  same_row_of op.Bnf = refl
-  same_row_of op.Bnr = refl
-  same_row_of op.Bng = refl
-  same_row_of op.Bi = refl
-  same_row_of op.Bni = refl
-  same_row_of op.H = refl
-  same_row_of op.B = refl
-  same_row_of op.Mf = refl
-  same_row_of op.Tns = refl
-  same_row_of op.Tnf = refl
+  same_row_of o = refl
 
   same_by_table : (r : Option InstructionRow) → row_by_table r (instr_at ir low high) ≡ row_by_table r (instr_at 0 low high)
   same_by_table None = refl
-  same_by_table (Some r) = same_row_of (op_of r)
+  same_by_table (Some r) = ap (with_columns r) (same_row_of (op_of r))
 
   same_row_by : (code : Option ℕ) → row_by code (instr_at ir low high) ≡ row_by code (instr_at 0 low high)
   unfolding row_of_code
@@ -123,14 +96,19 @@ odd_first (Ok p) o is = passed_odd p 0 (p % 2 == 0) o refl is
 odd_first (Err why) o is = cc
 
 -- operands that an instruction comes to
-module _ (core : List ℕ) (ir : ℕ) (o : Operands) where
-  pub first_odd : (u : Uses) → operands u core ir ≡ Ok o → u ≡ OddFirst → o.p % 2 ≡ 1
-  first_odd OddFirst is e = odd_first (p_operand core ir) o is
-  first_odd u is e = cc
+pub odd_wanted : (core : List ℕ) (ir : ℕ) (o : Operands) (u : Uses) → operands u core ir ≡ Ok o → wants_odd u ≡ true → o.p % 2 ≡ 1
+odd_wanted core ir o OddFirst is e = odd_first (p_operand core ir) o is
+odd_wanted core ir o OddBoth is e = odd_pair (p_operand core ir) (q_operand core ir) o is
+odd_wanted core ir o u is e = cc
 
-  pub pair_odd : (u : Uses) → operands u core ir ≡ Ok o → u ≡ OddBoth → o.p % 2 ≡ 1
-  pair_odd OddBoth is e = odd_pair (p_operand core ir) (q_operand core ir) o is
-  pair_odd u is e = cc
+-- its fields say so
+field_odd : (u : Uses) (stores : MayStore) (i : Instr) → wants_odd u ≡ true → (fields_used u stores i).odd ≡ true
+field_odd OddFirst stores i e = refl
+field_odd OddBoth stores i e = refl
+field_odd u stores i e = cc
+
+pub row_odd : (i : Instr) (row : Row) (f : Fields) → IsRow i row f → takes_odd row ≡ true → f.odd ≡ true
+row_odd i row f is odd = ap (λ (x : Fields). x.odd) is.fields_are ∙ field_odd is.uses f.stores i (uses_odd i _ is.row_is odd)
 
 module _ (m low high : ℕ) (good : AreGood low high) (core : List ℕ) (ir : ℕ) (t : AreTwelve m core ir low high) where
   long : length core ≡ size m
@@ -169,17 +147,34 @@ module _ (m low high : ℕ) (good : AreGood low high) (core : List ℕ) (ir : �
       fetch_is core ir (digits_in low high) t.even u0
 
   -- fields are the same wherever the cells stand
-  same_fields : (u : Uses) → fields_used u (instr_at 0 low high) ≡ fields_used u (instr_at ir low high)
+  same_fields : (u : Uses) (stores : MayStore) → fields_used u stores (instr_at 0 low high) ≡ fields_used u stores (instr_at ir low high)
   unfolding number_in
-  same_fields Both = refl
-  same_fields u = refl
+  same_fields Both stores = refl
+  same_fields u stores = refl
 
-  holds : (u : Uses) (f : Fields) → f ≡ fields_used u (instr_at 0 low high) → HoldOperands u core ir f
-  holds u f are = subst (HoldOperands u core ir) (sym (are ∙ same_fields u)) (fields_hold core ir (instr_at ir low high) fetched u)
+  here : (row : Row) (f : Fields) → IsRow (instr_at 0 low high) row f → IsRow (instr_at ir low high) row f
+  here row f is = record {
+    uses = is.uses;
+    row_is = same_row ir low high ∙ is.row_is;
+    fields_are = is.fields_are ∙ same_fields is.uses f.stores;
+  }
 
-  module _ (f : Fields) (settled : AreSettled (size m) f) where
-    come : (u : Uses) → f ≡ fields_used u (instr_at 0 low high) → operands u core ir ≡ Ok (operands_at ir f)
-    come u are = sym (holds u f are) ∙ settled.works core ir long
+  holds : (row : Row) (f : Fields) (is : IsRow (instr_at ir low high) row f) → HoldOperands is.uses core ir f
+  holds row f is = subst (HoldOperands is.uses core ir) (sym is.fields_are) (fields_hold core ir (instr_at ir low high) fetched is.uses f.stores)
+
+  module _ (row : Row) (f : Fields) (is : IsRow (instr_at ir low high) row f) where
+    same_uses : uses_at ir low high ≡ is.uses
+    same_uses = ap uses_in is.row_is
+
+    row_at : instruction_row (instr_at ir low high) ≡ Ok (found_with row (uses_at ir low high) f.stores)
+    row_at = is.row_is ∙ ap (λ (u : Uses). Ok (found_with row u f.stores)) (sym same_uses)
+
+    held : HoldOperands (uses_at ir low high) core ir f
+    held = subst (λ (u : Uses). HoldOperands u core ir f) (sym same_uses) (holds row f is)
+
+  module _ (row : Row) (f : Fields) (settled : AreSettled (size m) f) (is : IsRow (instr_at ir low high) row f) where
+    come : operands (uses_at ir low high) core ir ≡ Ok (operands_at ir f)
+    come = sym (held row f is) ∙ settled.works core ir long
 
     p_below : f.p < length core
     p_below = let h = settled.p_below in omega arith
@@ -187,27 +182,45 @@ module _ (m low high : ℕ) (good : AreGood low high) (core : List ℕ) (ir : �
     q_below : (operands_at ir f).q < length core
     q_below = let h = settled.q_below ir (omega arith) in omega arith
 
-    row_comes : (row : Row) → IsRow (instr_at 0 low high) row f → ComesToRow core ir low high row (operands_at ir f)
-    row_comes row is = record {
+    row_comes : ComesToRow core ir low high row f.stores (operands_at ir f)
+    row_comes = record {
       fetched = fetched;
-      row_is = same_row ir low high ∙ is.row_is;
-      operands_are = come (uses row) is.fields_are;
+      row_is = row_at row f is;
+      operands_are = come;
       inside = inside;
       p_inside = p_below;
       q_inside = q_below;
-      odd = first_odd core ir (operands_at ir f) (uses row) (come (uses row) is.fields_are);
-      odd_pairs = pair_odd core ir (operands_at ir f) (uses row) (come (uses row) is.fields_are);
+      odd = λ odd. odd_wanted core ir (operands_at ir f) (uses_at ir low high) come (uses_odd (instr_at ir low high) _ (row_at row f is) odd);
     }
+
+  -- B
+  module _ (p : ℕ) (b : IsB (instr_at 0 low high) (size m) p) where
+    there : IsRow (instr_at ir low high) (rows.Branch B b.code) b.f
+    there = here (rows.Branch B b.code) b.f b.is
+
+    columns : (there.uses ≡ First) × (b.f.stores ≡ Nothing)
+    columns = b_columns (instr_at ir low high) _ there.row_is refl
+
+    abbrev q_held : Fields → ℕ
+    q_held f = (operands_at ir f).q
+
+    none_held : q_held b.f ≡ 0
+    none_held = ap q_held (there.fields_are ∙ ap (λ (u : Uses). fields_used u b.f.stores (instr_at ir low high)) columns.0)
+
+    operands_of_b : operands_at ir b.f ≡ record { p = p; q = 0 }
+    operands_of_b = λ j. record { p = sym b.p_is j; q = none_held j }
+
+    b_comes : ComesToB core ir low high p
+    b_comes =
+        subst (λ (c : ℕ). ComesToRow core ir low high (rows.Branch B c) Nothing (record { p = p; q = 0 })) (sym (ap code_in there.row_is))
+        (subst (λ (o : Operands). ComesToRow core ir low high (rows.Branch B b.code) Nothing o) operands_of_b
+        (subst (λ (x : MayStore). ComesToRow core ir low high (rows.Branch B b.code) x (operands_at ir b.f)) columns.1 (row_comes (rows.Branch B b.code) b.f b.settled there)))
 
   pub comes : (k : Known) → IsKnown (instr_at 0 low high) (size m) k → ComesTo core ir low high k
   comes (known.Goes p) is = record {
     to_b = λ v e.
         let same : p ≡ v = cc in
-        let o_is : operands_at ir is.f ≡ record { p = p; q = 0 } = rw (is.p_is, is.is.fields_are) refl in
-        let code_is : code_in (instruction_row (instr_at ir low high)) ≡ is.code = ap code_in (same_row ir low high ∙ is.is.row_is) in
-        rw (← same)
-        (subst (λ (c : ℕ). ComesToRow core ir low high (rows.Branch B c) (record { p = p; q = 0 })) (sym code_is)
-        (subst (λ (o : Operands). ComesToRow core ir low high (rows.Branch B is.code) o) o_is (row_comes is.f is.settled (rows.Branch B is.code) is.is)));
+        rw (← same) (b_comes p is);
     to_row = λ row f e. absurd (cc);
     to_chained = λ row f e. absurd (cc);
   }
@@ -216,7 +229,7 @@ module _ (m low high : ℕ) (good : AreGood low high) (core : List ℕ) (ir : �
     to_row = λ other x e.
         let same_row_is : row ≡ other = cc in
         let same_f : f ≡ x = cc in
-        rw (← same_row_is, ← same_f) (row_comes f is.1 row is.0);
+        rw (← same_row_is, ← same_f) (row_comes row f is.1 (here row f is.0));
     to_chained = λ other x e. absurd (cc);
   }
   comes (known.Chained row f) is = record {
@@ -225,11 +238,13 @@ module _ (m low high : ℕ) (good : AreGood low high) (core : List ℕ) (ir : �
     to_chained = λ other x e.
         let same_row_is : row ≡ other = cc in
         let same_f : f ≡ x = cc in
+        let there : IsRow (instr_at ir low high) row f = here row f is in
         rw (← same_row_is, ← same_f) (record {
           fetched = fetched;
-          row_is = same_row ir low high ∙ is.row_is;
-          operands_are = holds (uses row) f is.fields_are;
+          row_is = row_at row f there;
+          operands_are = held row f there;
           inside = inside;
+          odd = row_odd (instr_at ir low high) row f there;
         });
   }
   comes known.Other is = record {

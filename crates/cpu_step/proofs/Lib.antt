@@ -20,6 +20,7 @@ pub mod SumStores
 pub mod RecordStores
 pub mod FeatureStores
 pub mod RowStores
+pub mod TableRows
 pub mod StepStores
 pub mod StoredWords
 pub mod Checked

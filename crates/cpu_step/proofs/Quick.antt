@@ -12,7 +12,8 @@ use Rattle.cpu_step.specs.State.{State}
 use Rattle.cpu_step.specs.Act.{Next, Goes, action}
 use Rattle.cpu_step.specs.Step.{instruction}
 use Rattle.cpu_step.specs.declared.memo.Memo.{Memo}
-use Rattle.cpu_step.specs.Known.{ComesToRow, ComesToB}
+use Rattle.instruction_table.specs.declared.MayStore.{MayStore}
+use Rattle.cpu_step.specs.Known.{found_with, uses_at, ComesToRow, ComesToB}
 use Rattle.traces.specs.Break.{Break}
 use Rattle.cpu_step.specs.declared.machine.Outcome.{Outcome}
 use Rattle.cpu_step.specs.declared.machine.Outcome.TheVariants as outcome
@@ -22,15 +23,15 @@ use Rattle.cpu_step.proofs.Shown.{row_acts, operands_act}
 
 module _ (m : ℕ) (machine : Machine m) (w : World) (s : State) (shown : Shows m machine w s) (low high : ℕ) where
   -- a row
-  pub known_acts : (r : Row) (o : Operands) → ComesToRow machine.core machine.regs.ir low high r o → instruction s ≡ action r o s
-  known_acts r o c = row_acts m machine w s shown _ r (sym c.fetched) (sym c.row_is) ∙ operands_act m machine w s shown r o (sym c.operands_are)
+  pub known_acts : (r : Row) (stores : MayStore) (o : Operands) → ComesToRow machine.core machine.regs.ir low high r stores o → instruction s ≡ action r o s
+  known_acts r stores o c = row_acts m machine w s shown _ (found_with r (uses_at machine.regs.ir low high) stores) (sym c.fetched) (sym c.row_is) ∙ operands_act m machine w s shown (found_with r (uses_at machine.regs.ir low high) stores) (Ok o) (sym c.operands_are)
 
   -- B
   pub known_goes : (p : ℕ) → ComesToB machine.core machine.regs.ir low high p → instruction s ≡ ends (Ok (Goes (record { ir = p; ir2 = machine.regs.ir2 })))
   unfolding action
   known_goes p c =
       let regs_is : s.regs ≡ machine.regs = ap (λ (x : State). x.regs) shown.is in
-      known_acts _ _ c ∙ rw regs_is refl
+      known_acts _ _ _ c ∙ rw regs_is refl
 
 -- an address in core is no great number
 pub in_size : (m : ℕ) (core : List ℕ) (ir : ℕ) → IsSize m → length core ≡ size m → ir + 12 ≤ length core → ir + 12 ≤ 60000

@@ -28,18 +28,19 @@ use Rattle.branch_ops.proofs.Changes.{core_stored, core_lit}
 use Rattle.table_arith.specs.declared.Kind.{Kind}
 use Rattle.table_arith.specs.declared.Shown.{Shown}
 use Rattle.table_arith.specs.Sum.{sum, comparison}
+use Rattle.instruction_table.specs.declared.MayStore.{MayStore}
+use Rattle.instruction_table.specs.declared.MayStore.TheVariants as column
 use Rattle.cpu_step.specs.declared.rows.Row.{Row}
 use Rattle.cpu_step.specs.declared.rows.Row.TheVariants as row
 use Rattle.cpu_step.specs.declared.rows.MoveOp.{MoveOp}
 use Rattle.cpu_step.specs.declared.rows.MoveOp.TheVariants as moves
-use Rattle.cpu_step.specs.declared.rows.InOutRow.{InOutRow}
 use Rattle.cpu_step.specs.declared.rows.InOutRow.TheVariants as io
 use Rattle.cpu_step.specs.declared.rows.ConsoleRow.{ConsoleRow}
 use Rattle.cpu_step.specs.declared.rows.ConsoleRow.TheVariants as console
 use Rattle.cpu_step.specs.declared.rows.CardRow.{CardRow}
 use Rattle.cpu_step.specs.declared.rows.CardRow.TheVariants as cards
-use Rattle.cpu_step.specs.declared.rows.Uses.TheVariants.{OddBoth}
-use Rattle.cpu_step.specs.Rows.{uses, move_uses}
+use Rattle.cpu_step.specs.declared.rows.Second.{Second}
+use Rattle.cpu_step.specs.Rows.{takes_odd}
 use Rattle.cpu_step.specs.declared.rows.Operands.{Operands}
 use Rattle.cpu_step.specs.declared.stores.Stores as may
 use Rattle.cpu_step.specs.declared.stores.Stores.TheVariants as kinds
@@ -47,8 +48,8 @@ use Rattle.cpu_step.specs.State.{State}
 use Rattle.cpu_step.specs.Effects.{Cell, Punched, Typed, of_punch, of_typing, with_bytes, after}
 use Rattle.card_unit.specs.Punch.{punch_numeric, punch_alphameric, punch_dump}
 use Rattle.typewriter.specs.Typing.{control, write_numeric, write_alphameric, write_dump}
-use Rattle.cpu_step.specs.Act.{show_result, sum_action, comparison_action, move_action, typing_action, pair_typing_action, punch_action, pair_punch_action, on_console, on_cards, in_out, move_of, operands_of_branch, branch_by, action}
-use Rattle.cpu_step.specs.Stores.{KeepsOutside, console_stores, card_stores, unit_stores, move_stores, transmit_stores, branch_stores, row_stores}
+use Rattle.cpu_step.specs.Act.{show_result, sum_action, comparison_action, move_action, typing_action, pair_typing_action, punch_action, pair_punch_action, on_console, on_cards, move_of, operands_of_branch, action}
+use Rattle.cpu_step.specs.Stores.{KeepsOutside, down_below, stores_by}
 use Rattle.cpu_step.proofs.Parts.{after_cells, after_changes, after_shown, after_sum}
 use Rattle.cpu_step.proofs.FieldStores.{Sinks, move_sinks}
 use Rattle.cpu_step.proofs.SumStores.{sum_sinks}
@@ -133,84 +134,106 @@ punch_keeps s t = keeps_all s.core (after s (map Punched t.effects)).core (core_
 pair_punch_keeps : (s : State) (t : Trace Output ⊤ Stop) → KeepsOutside kinds.Nothing s.core (after s (pair_punch_action s t).effects).core
 pair_punch_keeps s t = keeps_all s.core (after s (map of_punch t.effects)).core (core_pairs_punched t.effects s)
 
--- A, S; TF; TR; TNS; TNF; TD; SF, CF; C
-sum_stores : (kind : Kind) (s : State) (p q : ℕ) → p < length s.core → KeepsOutside (kinds.Down p) s.core (after s (sum_action s (sum kind s.core p q)).effects).core
-sum_stores kind s p q inside = sum_keeps s p q kind inside
+-- THE ACTION OF A ROW STORES WITHIN THIS COLUMN.
+abbrev pub RowKeeps : MayStore → Row → Type 0
+RowKeeps stores r = (o : Operands) (s : State) → o.p < length s.core → o.q < length s.core → (takes_odd r ≡ true → o.p % 2 ≡ 1) → KeepsOutside (stores_by stores o) s.core (after s (action r o s).effects).core
 
-field_stores : (s : State) (p q : ℕ) → p < length s.core → KeepsOutside (kinds.Down p) s.core (after s (move_action s (move_field s.core p q)).effects).core
-field_stores s p q inside = move_keeps (kinds.Down p) s (move_field s.core p q) (within_down s.core _ p (move_sinks s.core p q inside))
+-- whatever it does
+pub any_row : (r : Row) → RowKeeps column.Anywhere r
+any_row r o s inside second odd a out = absurd out
 
-record_stores : (s : State) (p q : ℕ) → p < length s.core → KeepsOutside (kinds.Up p) s.core (after s (move_action s (move_record s.core p q)).effects).core
-record_stores s p q inside = move_keeps (kinds.Up p) s (move_record s.core p q) (within_up s.core _ p (record_rises s.core p q inside))
+pub nop_row : RowKeeps column.Nothing row.Nop
+unfolding action
+nop_row o s inside second odd a out = refl
 
-strip_stores : (s : State) (p q : ℕ) → q < length s.core → KeepsOutside (kinds.Down q) s.core (after s (move_action s (strip s.core p q)).effects).core
-strip_stores s p q inside = move_keeps (kinds.Down q) s (strip s.core p q) (within_down s.core _ q (strip_sinks s.core p q inside))
+pub halt_row : RowKeeps column.Nothing row.H
+unfolding action
+halt_row o s inside second odd a out = refl
 
-fill_stores : (s : State) (p q : ℕ) → p < length s.core → p % 2 ≡ 1 → KeepsOutside (kinds.Down p) s.core (after s (move_action s (fill s.core p q)).effects).core
-fill_stores s p q inside odd = move_keeps (kinds.Down p) s (fill s.core p q) (within_down s.core _ p (fill_sinks s.core p q inside odd))
+pub sum_row : (kind : Kind) (which : Second) → RowKeeps column.Down (row.Sum kind which)
+unfolding action
+sum_row kind which o s inside second odd = sum_keeps s o.p o.q kind inside
 
-digit_stores : (s : State) (p q : ℕ) → KeepsOutside (kinds.Cell p) s.core (after s (move_action s (copy_digit s.core p q)).effects).core
-digit_stores s p q = move_keeps (kinds.Cell p) s (copy_digit s.core p q) (λ a other. one_cell s.core p (λ d. d) (read_at s.core q) a other)
-
-set_stores : (s : State) (p : ℕ) → KeepsOutside (kinds.Cell p) s.core (after s (move_action s (set_flag s.core p)).effects).core
-set_stores s p = move_keeps (kinds.Cell p) s (set_flag s.core p) (λ a other. one_cell s.core p (with_flag true) (read_at s.core p) a other)
-
-clear_stores : (s : State) (p : ℕ) → KeepsOutside (kinds.Cell p) s.core (after s (move_action s (clear_flag s.core p)).effects).core
-clear_stores s p = move_keeps (kinds.Cell p) s (clear_flag s.core p) (λ a other. one_cell s.core p (with_flag false) (read_at s.core p) a other)
-
-comparison_stores : (s : State) (p q : ℕ) → KeepsOutside kinds.Nothing s.core (after s (comparison_action s (comparison s.core p q)).effects).core
-comparison_stores s p q a out = comparison_keeps s (comparison s.core p q) a
-
--- the typewriter and its keyboard
-console_keeps : (r : ConsoleRow) (p : ℕ) (s : State) → KeepsOutside (console_stores r) s.core (after s (on_console r p s).effects).core
-unfolding on_console
-console_keeps console.Space p s = typing_keeps s (control 1)
-console_keeps console.Return p s = typing_keeps s (control 2)
-console_keeps console.Tab p s = typing_keeps s (control 8)
-console_keeps console.Dump p s = typing_keeps s (write_dump s.core p)
-console_keeps console.WriteNumeric p s = typing_keeps s (write_numeric s.core p)
-console_keeps console.WriteAlpha p s = pair_typing_keeps s (write_alphameric s.core p)
-console_keeps console.ReadNumeric p s = λ a out. absurd out
-console_keeps console.ReadAlpha p s = λ a out. absurd out
-
--- the card reader and the punch
-card_keeps : (r : CardRow) (p : ℕ) (s : State) → KeepsOutside (card_stores r) s.core (after s (on_cards r p s).effects).core
-unfolding on_cards
-card_keeps cards.Dump p s = punch_keeps s (punch_dump s.core p)
-card_keeps cards.PunchNumeric p s = punch_keeps s (punch_numeric s.core p)
-card_keeps cards.PunchAlpha p s = pair_punch_keeps s (punch_alphameric s.core p)
-card_keeps cards.ReadNumeric p s = λ a out. absurd out
-card_keeps cards.ReadAlpha p s = λ a out. absurd out
-
-unit_keeps : (r : InOutRow) (p : ℕ) (s : State) → KeepsOutside (unit_stores r) s.core (after s (in_out r p s).effects).core
-unit_keeps (io.Console r) p s = console_keeps r p s
-unit_keeps (io.Cards r) p s = card_keeps r p s
-unit_keeps (io.Disk r) p s = λ a out. absurd out
+pub compare_row : (which : Second) → RowKeeps column.Nothing (row.Compare which)
+unfolding action
+compare_row which o s inside second odd a out = comparison_keeps s (comparison s.core o.p o.q) a
 
 -- what moves or changes digits in core
-moves_keep : (op : MoveOp) (o : Operands) (s : State) → o.p < length s.core → o.q < length s.core → (move_uses op ≡ OddBoth → o.p % 2 ≡ 1)
-    → KeepsOutside (move_stores op o) s.core (after s (move_action s (move_of op o s.core)).effects).core
-unfolding move_of
-moves_keep (moves.Digit which) o s inside second odd = digit_stores s o.p o.q
-moves_keep (moves.Field which) o s inside second odd = field_stores s o.p o.q inside
-moves_keep moves.Record o s inside second odd = record_stores s o.p o.q inside
-moves_keep moves.SetFlag o s inside second odd = set_stores s o.p
-moves_keep moves.ClearFlag o s inside second odd = clear_stores s o.p
-moves_keep moves.Flag o s inside second odd = λ a out. absurd out
-moves_keep moves.Strip o s inside second odd = strip_stores s o.p o.q second
-moves_keep moves.Fill o s inside second odd = fill_stores s o.p o.q inside (odd refl)
+pub digit_row : (which : Second) → RowKeeps column.Cell (row.Move (moves.Digit which))
+unfolding action move_of
+digit_row which o s inside second odd = move_keeps (kinds.Cell o.p) s (copy_digit s.core o.p o.q) (λ a other. one_cell s.core o.p (λ d. d) (read_at s.core o.q) a other)
+
+pub field_row : (which : Second) → RowKeeps column.Down (row.Move (moves.Field which))
+unfolding action move_of
+field_row which o s inside second odd = move_keeps (kinds.Down o.p) s (move_field s.core o.p o.q) (within_down s.core _ o.p (move_sinks s.core o.p o.q inside))
+
+pub record_row : RowKeeps column.Up (row.Move moves.Record)
+unfolding action move_of
+record_row o s inside second odd = move_keeps (kinds.Up o.p) s (move_record s.core o.p o.q) (within_up s.core _ o.p (record_rises s.core o.p o.q inside))
+
+pub set_row : RowKeeps column.Cell (row.Move moves.SetFlag)
+unfolding action move_of
+set_row o s inside second odd = move_keeps (kinds.Cell o.p) s (set_flag s.core o.p) (λ a other. one_cell s.core o.p (with_flag true) (read_at s.core o.p) a other)
+
+pub clear_row : RowKeeps column.Cell (row.Move moves.ClearFlag)
+unfolding action move_of
+clear_row o s inside second odd = move_keeps (kinds.Cell o.p) s (clear_flag s.core o.p) (λ a other. one_cell s.core o.p (with_flag false) (read_at s.core o.p) a other)
+
+pub strip_row : RowKeeps column.DownFromQ (row.Move moves.Strip)
+unfolding action move_of
+strip_row o s inside second odd = move_keeps (kinds.Down o.q) s (strip s.core o.p o.q) (within_down s.core _ o.q (strip_sinks s.core o.p o.q second))
+
+pub fill_row : RowKeeps column.Down (row.Move moves.Fill)
+unfolding action move_of
+fill_row o s inside second odd = move_keeps (kinds.Down o.p) s (fill s.core o.p o.q) (within_down s.core _ o.p (fill_sinks s.core o.p o.q inside (odd refl)))
+
+-- the typewriter and its keyboard
+abbrev pub console_column : ConsoleRow → MayStore
+console_column console.ReadNumeric = column.Anywhere
+console_column console.ReadAlpha = column.Anywhere
+console_column r = column.Nothing
+
+pub console_row : (r : ConsoleRow) → RowKeeps (console_column r) (row.InOut (io.Console r))
+unfolding action on_console
+console_row console.Space o s inside second odd = typing_keeps s (control 1)
+console_row console.Return o s inside second odd = typing_keeps s (control 2)
+console_row console.Tab o s inside second odd = typing_keeps s (control 8)
+console_row console.Dump o s inside second odd = typing_keeps s (write_dump s.core o.p)
+console_row console.WriteNumeric o s inside second odd = typing_keeps s (write_numeric s.core o.p)
+console_row console.WriteAlpha o s inside second odd = pair_typing_keeps s (write_alphameric s.core o.p)
+console_row console.ReadNumeric o s inside second odd = λ a out. absurd out
+console_row console.ReadAlpha o s inside second odd = λ a out. absurd out
+
+-- the card reader and the punch
+abbrev pub card_column : CardRow → MayStore
+card_column cards.ReadNumeric = column.Anywhere
+card_column cards.ReadAlpha = column.Anywhere
+card_column r = column.Nothing
+
+pub card_row : (r : CardRow) → RowKeeps (card_column r) (row.InOut (io.Cards r))
+unfolding action on_cards
+card_row cards.Dump o s inside second odd = punch_keeps s (punch_dump s.core o.p)
+card_row cards.PunchNumeric o s inside second odd = punch_keeps s (punch_numeric s.core o.p)
+card_row cards.PunchAlpha o s inside second odd = pair_punch_keeps s (punch_alphameric s.core o.p)
+card_row cards.ReadNumeric o s inside second odd = λ a out. absurd out
+card_row cards.ReadAlpha o s inside second odd = λ a out. absurd out
 
 -- what a branch reads first leaves core, and so does what follows
 read_first : {A : Type 0} (core : List ℕ) (r : Result A Stop) (f : A → Trace Change Regs Stop) → ((x : A) → core_after_changes core (f x).effects ≡ core) → core_after_changes core (r >>= f).effects ≡ core
 read_first core (Ok x) f rest = rest x
 read_first core (Err why) f rest = refl
 
+abbrev pub branch_column : BranchOp → MayStore
+branch_column op.Bt = column.DownBelow
+branch_column op.Btm = column.DownBelow
+branch_column b = column.Nothing
+
 module _ (core : List ℕ) (r : Regs) (panel : Panel) where
   -- BT, BTM
   abbrev transmit_by : Bool → ℕ → ℕ → Trace Change Regs Stop
   transmit_by b p q = if b then ends (Err Address) else with_answer (λ _. record { ir = p; ir2 = r.ir + 12 }) (lift Stores (move_field core (p - 1) q))
 
-  transmit_keeps : (p q : ℕ) → p < length core → KeepsOutside (transmit_stores p) core (core_after_changes core (transmit core r p q).effects)
+  transmit_keeps : (p q : ℕ) → p < length core → KeepsOutside (down_below p) core (core_after_changes core (transmit core r p q).effects)
   transmit_keeps p q inside = by_zero (p == 0)
     where
       by_zero : (b : Bool) → KeepsOutside (if b then kinds.Nothing else kinds.Down (p - 1)) core (core_after_changes core (transmit_by b p q).effects)
@@ -227,30 +250,20 @@ module _ (core : List ℕ) (r : Regs) (panel : Panel) where
   indicator_keeps : (p code : ℕ) (test : Bool) → KeepsOutside kinds.Nothing core (core_after_changes core (go_by_indicator r p code test).effects)
   indicator_keeps p code test = keeps_all core (core_after_changes core (go_by_indicator r p code test).effects) (core_lit core (test_lamps code))
 
-  branch_keeps : (b : BranchOp) (o : BranchOperands) → o.p < length core → KeepsOutside (branch_stores b o.p) core (core_after_changes core (branch_over b o core r panel).effects)
-  branch_keeps op.Bt o inside = transmit_keeps o.p o.q inside
-  branch_keeps op.Btm o inside = transmit_keeps o.p o.q inside
-  branch_keeps op.Bb o inside = λ a out. refl
-  branch_keeps op.Bd o inside = digit_keeps o.p o.q (λ d. not (d.value == 0))
-  branch_keeps op.Bnf o inside = digit_keeps o.p o.q (λ d. not d.flag)
-  branch_keeps op.Bnr o inside = digit_keeps o.p o.q (λ d. not (d.value == RECORD_MARK))
-  branch_keeps op.Bng o inside = digit_keeps o.p o.q (λ d. not (d.value == GROUP_MARK))
-  branch_keeps op.Bi o inside = indicator_keeps o.p o.code (on o.code panel)
-  branch_keeps op.Bni o inside = indicator_keeps o.p o.code (not (on o.code panel))
-  branch_keeps op.B o inside = λ a out. refl
+  branch_keeps : (b : BranchOp) (o : BranchOperands) (q : ℕ) → o.p < length core → KeepsOutside (stores_by (branch_column b) (record { p = o.p; q = q })) core (core_after_changes core (branch_over b o core r panel).effects)
+  branch_keeps op.Bt o q inside = transmit_keeps o.p o.q inside
+  branch_keeps op.Btm o q inside = transmit_keeps o.p o.q inside
+  branch_keeps op.Bb o q inside = λ a out. refl
+  branch_keeps op.Bd o q inside = digit_keeps o.p o.q (λ d. not (d.value == 0))
+  branch_keeps op.Bnf o q inside = digit_keeps o.p o.q (λ d. not d.flag)
+  branch_keeps op.Bnr o q inside = digit_keeps o.p o.q (λ d. not (d.value == RECORD_MARK))
+  branch_keeps op.Bng o q inside = digit_keeps o.p o.q (λ d. not (d.value == GROUP_MARK))
+  branch_keeps op.Bi o q inside = indicator_keeps o.p o.code (on o.code panel)
+  branch_keeps op.Bni o q inside = indicator_keeps o.p o.code (not (on o.code panel))
+  branch_keeps op.B o q inside = λ a out. refl
 
-branch_row_keeps : (b : BranchOp) (o : BranchOperands) (s : State) → o.p < length s.core → KeepsOutside (branch_stores b o.p) s.core (after s (branch_by b o s).effects).core
-branch_row_keeps b o s inside =
-    let t : Trace Change Regs Stop = branch_over b o s.core s.regs s.panel in
-    subst (λ (new : List ℕ). KeepsOutside (branch_stores b o.p) s.core new) (sym (ap (λ (x : State). x.core) (after_changes t.effects s))) (branch_keeps s.core s.regs s.panel b o inside)
-
--- EACH ROW STORES WITHIN WHAT IT MAY.
-pub row_keeps : (r : Row) (o : Operands) (s : State) → o.p < length s.core → o.q < length s.core → (uses r ≡ OddBoth → o.p % 2 ≡ 1) → KeepsOutside (row_stores r o) s.core (after s (action r o s).effects).core
+pub branch_row : (b : BranchOp) (code : ℕ) → RowKeeps (branch_column b) (row.Branch b code)
 unfolding action
-row_keeps (row.Sum kind which) o s inside second odd = sum_stores kind s o.p o.q inside
-row_keeps (row.Compare which) o s inside second odd = comparison_stores s o.p o.q
-row_keeps (row.Move op) o s inside second odd = moves_keep op o s inside second odd
-row_keeps (row.InOut r) o s inside second odd = unit_keeps r o.p s
-row_keeps (row.Branch b code) o s inside second odd = branch_row_keeps b (operands_of_branch o code) s inside
-row_keeps row.Nop o s inside second odd = λ a out. refl
-row_keeps row.H o s inside second odd = λ a out. refl
+branch_row b code o s inside second odd =
+    let t : Trace Change Regs Stop = branch_over b (operands_of_branch o code) s.core s.regs s.panel in
+    subst (λ (new : List ℕ). KeepsOutside (stores_by (branch_column b) o) s.core new) (sym (ap (λ (x : State). x.core) (after_changes t.effects s))) (branch_keeps s.core s.regs s.panel b (operands_of_branch o code) o.q inside)

@@ -9,31 +9,23 @@ use Rattle.addr_indirect.specs.declared.Instr.{Instr}
 use Rattle.card_code.specs.Entries.{behind}
 use Rattle.traces.specs.Trace.{Trace, ends, ◌>>=◌}
 use Rattle.traces.specs.Break.{Break, Stops, Empty, NoKeys, Jam, or_break}
-use Rattle.branch_ops.specs.declared.BranchOp.{BranchOp}
-use Rattle.branch_ops.specs.declared.BranchOp.TheVariants as op
+use Rattle.instruction_table.specs.declared.MayStore.{MayStore}
+use Rattle.instruction_table.specs.declared.MayStore.TheVariants as column
 use Rattle.cpu_step.specs.declared.rows.Row.{Row}
-use Rattle.cpu_step.specs.declared.rows.Row.TheVariants as row
-use Rattle.cpu_step.specs.declared.rows.MoveOp.{MoveOp}
-use Rattle.cpu_step.specs.declared.rows.MoveOp.TheVariants as moves
-use Rattle.cpu_step.specs.declared.rows.InOutRow.{InOutRow}
-use Rattle.cpu_step.specs.declared.rows.InOutRow.TheVariants as io
-use Rattle.cpu_step.specs.declared.rows.ConsoleRow.{ConsoleRow}
-use Rattle.cpu_step.specs.declared.rows.ConsoleRow.TheVariants as console
-use Rattle.cpu_step.specs.declared.rows.CardRow.{CardRow}
-use Rattle.cpu_step.specs.declared.rows.CardRow.TheVariants as cards
+use Rattle.cpu_step.specs.declared.rows.Found.{Found}
 use Rattle.cpu_step.specs.declared.rows.Operands.{Operands}
 use Rattle.cpu_step.specs.declared.stores.Stores as may
 use Rattle.cpu_step.specs.declared.stores.Stores.TheVariants as kinds
 use Rattle.cpu_step.specs.State.{State}
 use Rattle.cpu_step.specs.Effects.{Effect, Cell, Light, Arm, Punched, Typed, Sector, CardTaken, LineTaken, with_bytes, after}
-use Rattle.cpu_step.specs.Act.{Next, Goes, Halts, act, action, operands}
+use Rattle.cpu_step.specs.Act.{Next, Goes, Halts, act, act_with, action, operands}
 use Rattle.cpu_step.specs.Step.{check_stop, state_after_check, settle, instruction, step}
-use Rattle.cpu_step.specs.Known.{ComesToRow}
-use Rattle.cpu_step.specs.Rows.{instruction_row, uses}
-use Rattle.cpu_step.specs.declared.rows.Uses.TheVariants.{OddBoth}
+use Rattle.cpu_step.specs.Known.{found_with, uses_at, ComesToRow}
+use Rattle.cpu_step.specs.Rows.{instruction_row}
 use Rattle.addr_indirect.specs.Fetch.{fetch}
-use Rattle.cpu_step.specs.Stores.{stores_at, KeepsOutside, StoresWithin, StepStores, IsBelow, console_stores, card_stores, unit_stores, transmit_stores, branch_stores, move_stores, row_stores}
-use Rattle.cpu_step.proofs.RowStores.{row_keeps}
+use Rattle.cpu_step.specs.Stores.{stores_at, KeepsOutside, StoresWithin, StepStores, IsBelow, stores_by}
+use Rattle.cpu_step.proofs.TableRows.{uses_odd, found_keeps}
+use Rattle.cpu_step.proofs.Knowing.{odd_wanted}
 
 -- no effect changes the length of core
 after_long : (es : List Effect) (s : State) → length (after s es).core ≡ length s.core
@@ -79,7 +71,7 @@ module _ (core : List ℕ) (ir : ℕ) where
       step_within kinds.Nothing s (ends (Err (Stops why))) same (λ a out. refl)
 
   module _ (i : Instr) (there : fetch core ir ≡ Ok i) where
-    row_here : (s : State) → s.core ≡ core → s.regs.ir ≡ ir → instruction s ≡ (or_break (instruction_row i) >>= (λ r. act r s))
+    row_here : (s : State) → s.core ≡ core → s.regs.ir ≡ ir → instruction s ≡ (or_break (instruction_row i) >>= (λ f. act f s))
     unfolding instruction
     row_here s core_is ir_is =
         let here : fetch s.core s.regs.ir ≡ Ok i = rw (core_is, ir_is) there in
@@ -90,80 +82,39 @@ module _ (core : List ℕ) (ir : ℕ) where
         let same : instruction s ≡ ends (Err (Stops why)) = row_here s core_is ir_is ∙ rw is refl in
         step_within kinds.Nothing s (ends (Err (Stops why))) same (λ a out. refl)
 
-    module _ (r : Row) (is : instruction_row i ≡ Ok r) where
-      pub operands_none : (why : Stop) → operands (uses r) core ir ≡ Err why → StepStores core ir kinds.Nothing
+    module _ (f : Found) (is : instruction_row i ≡ Ok f) where
+      pub operands_none : (why : Stop) → operands f.uses core ir ≡ Err why → StepStores core ir kinds.Nothing
       operands_none why stops s core_is ir_is =
-          let here : operands (uses r) s.core s.regs.ir ≡ Err why = rw (core_is, ir_is) stops in
+          let here : operands f.uses s.core s.regs.ir ≡ Err why = rw (core_is, ir_is) stops in
           let same : instruction s ≡ ends (Err (Stops why)) = row_here s core_is ir_is ∙ rw (is, here) refl in
           step_within kinds.Nothing s (ends (Err (Stops why))) same (λ a out. refl)
 
-      pub row_step : (o : Operands) → operands (uses r) core ir ≡ Ok o → o.p < length core → o.q < length core → (uses r ≡ OddBoth → o.p % 2 ≡ 1) → StepStores core ir (row_stores r o)
-      row_step o works first second odd s core_is ir_is =
-          let here : operands (uses r) s.core s.regs.ir ≡ Ok o = rw (core_is, ir_is) works in
-          let same : instruction s ≡ action r o s = row_here s core_is ir_is ∙ rw (is, here) refl in
-          step_within (row_stores r o) s (action r o s) same (row_keeps r o s (rw core_is first) (rw core_is second) odd)
+      pub row_step : (o : Operands) → operands f.uses core ir ≡ Ok o → o.p < length core → o.q < length core → StepStores core ir (stores_by f.stores o)
+      row_step o works first second s core_is ir_is =
+          let here : operands f.uses s.core s.regs.ir ≡ Ok o = rw (core_is, ir_is) works in
+          let same : instruction s ≡ action f.row o s = row_here s core_is ir_is ∙ rw (is, here) refl in
+          step_within (stores_by f.stores o) s (action f.row o s) same
+          (found_keeps i f is o s (rw core_is first) (rw core_is second) (λ odd. odd_wanted core ir o f.uses works (uses_odd i f is odd)))
 
--- an address in it is an operand's
-console_below : (r : ConsoleRow) (n : ℕ) → IsBelow (console_stores r) n
-console_below console.Space n = tt
-console_below console.Return n = tt
-console_below console.Tab n = tt
-console_below console.Dump n = tt
-console_below console.WriteNumeric n = tt
-console_below console.WriteAlpha n = tt
-console_below console.ReadNumeric n = tt
-console_below console.ReadAlpha n = tt
+-- an address in it is below the operands' bound
+below_down : (p n : ℕ) → p < n → (b : Bool) → IsBelow (if b then kinds.Nothing else kinds.Down (p - 1)) n
+below_down p n below true = tt
+below_down p n below false = omega (arith, below)
 
-card_below : (r : CardRow) (n : ℕ) → IsBelow (card_stores r) n
-card_below cards.Dump n = tt
-card_below cards.PunchNumeric n = tt
-card_below cards.PunchAlpha n = tt
-card_below cards.ReadNumeric n = tt
-card_below cards.ReadAlpha n = tt
-
-unit_below : (r : InOutRow) (n : ℕ) → IsBelow (unit_stores r) n
-unit_below (io.Console r) n = console_below r n
-unit_below (io.Cards r) n = card_below r n
-unit_below (io.Disk r) n = tt
-
-move_below : (op : MoveOp) (o : Operands) (n : ℕ) → o.p < n → o.q < n → IsBelow (move_stores op o) n
-move_below (moves.Digit which) o n first second = first
-move_below (moves.Field which) o n first second = first
-move_below moves.Record o n first second = first
-move_below moves.SetFlag o n first second = first
-move_below moves.ClearFlag o n first second = first
-move_below moves.Flag o n first second = tt
-move_below moves.Strip o n first second = second
-move_below moves.Fill o n first second = first
-
-transmit_below : (p n : ℕ) → p < n → IsBelow (transmit_stores p) n
-transmit_below p n below = by_zero (p == 0)
-  where
-    by_zero : (b : Bool) → IsBelow (if b then kinds.Nothing else kinds.Down (p - 1)) n
-    by_zero true = tt
-    by_zero false = omega (arith, below)
-
-branch_below : (b : BranchOp) (p n : ℕ) → p < n → IsBelow (branch_stores b p) n
-branch_below op.Bt p n below = transmit_below p n below
-branch_below op.Btm p n below = transmit_below p n below
-branch_below op.Bb p n below = tt
-branch_below op.Bd p n below = tt
-branch_below op.Bnf p n below = tt
-branch_below op.Bnr p n below = tt
-branch_below op.Bng p n below = tt
-branch_below op.Bi p n below = tt
-branch_below op.Bni p n below = tt
-branch_below op.B p n below = tt
-
-pub row_below : (r : Row) (o : Operands) (n : ℕ) → o.p < n → o.q < n → IsBelow (row_stores r o) n
-row_below (row.Sum kind which) o n first second = first
-row_below (row.Compare which) o n first second = tt
-row_below (row.Move op) o n first second = move_below op o n first second
-row_below (row.InOut r) o n first second = unit_below r n
-row_below (row.Branch b code) o n first second = branch_below b o.p n first
-row_below row.Nop o n first second = tt
-row_below row.H o n first second = tt
+pub stores_below : (stores : MayStore) (o : Operands) (n : ℕ) → o.p < n → o.q < n → IsBelow (stores_by stores o) n
+stores_below column.Nothing o n first second = tt
+stores_below column.Cell o n first second = first
+stores_below column.Down o n first second = first
+stores_below column.DownBelow o n first second = below_down o.p n first (o.p == 0)
+stores_below column.DownFromQ o n first second = second
+stores_below column.Up o n first second = first
+stores_below column.Anywhere o n first second = tt
+stores_below column.ByDevice o n first second = tt
 
 -- WHAT IS KNOWN OF AN INSTRUCTION SAYS THE SAME.
-pub row_says : (core : List ℕ) (ir low high : ℕ) (r : Row) (o : Operands) → ComesToRow core ir low high r o → row_stores r o ≡ stores_at core ir
-row_says core ir low high r o k = rw (k.fetched, k.row_is, k.operands_are) refl
+module _ (core : List ℕ) (ir low high : ℕ) (r : Row) (stores : MayStore) (o : Operands) (k : ComesToRow core ir low high r stores o) where
+  pub row_says : stores_by stores o ≡ stores_at core ir
+  row_says = rw (k.fetched, k.row_is, k.operands_are) refl
+
+  pub known_step : StepStores core ir (stores_by stores o)
+  known_step = row_step core ir _ k.fetched (found_with r (uses_at ir low high) stores) k.row_is o k.operands_are k.p_inside k.q_inside

@@ -13,6 +13,7 @@ use Rattle.addr_indirect.specs.Reading.{read_at, decimal_at}
 use Rattle.addr_indirect.specs.Operand.{number}
 use Rattle.addr_indirect.specs.Operands.{p_operand, q_operand, immediate_q}
 use Rattle.addr_indirect.specs.Fetch.{fetch}
+use Rattle.cpu_step.specs.declared.rows.Found.{Found}
 use Rattle.cpu_step.specs.declared.rows.Row.{Row}
 use Rattle.cpu_step.specs.declared.rows.Row.TheVariants as row
 use Rattle.cpu_step.specs.declared.rows.InOutRow.TheVariants as io
@@ -23,7 +24,7 @@ use Rattle.cpu_step.specs.declared.machine.Mode.{Mode}
 use Rattle.cpu_step.specs.declared.machine.Mode.TheVariants.{Stopped}
 use Rattle.cpu_step.specs.declared.checks.CheckPart.{CheckPart}
 use Rattle.cpu_step.specs.declared.checks.CheckPart.TheVariants as part
-use Rattle.cpu_step.specs.Rows.{instruction_row, uses}
+use Rattle.cpu_step.specs.Rows.{instruction_row}
 
 -- a cell that was read is passed over, and one that can't be read is what was sought
 abbrev pub unread_or : ℕ → Result Digit Stop → ℕ → ℕ
@@ -142,17 +143,17 @@ action_cell BadDigit r core o = cell_over_nine r core o
 action_cell why r core o = None
 
 -- the action over operands, or the part that has none
-abbrev pub action_or_part : Stop → Row → List ℕ → Result Operands CheckPart → CheckPart
-action_or_part why r core (Ok o) = part.Action o.p (q_used (uses r) o.q) (action_cell why r core o)
-action_or_part why r core (Err p) = p
+abbrev pub action_or_part : Stop → Found → List ℕ → Result Operands CheckPart → CheckPart
+action_or_part why f core (Ok o) = part.Action o.p (q_used f.uses o.q) (action_cell why f.row core o)
+action_or_part why f core (Err p) = p
 
--- the part of an instruction that was fetched and has this row
-abbrev pub worked_part : Stop → Row → List ℕ → ℕ → CheckPart
-worked_part why r core ir = action_or_part why r core (operands_or_part (uses r) core ir)
+-- the part of an instruction that was fetched and found
+abbrev pub worked_part : Stop → Found → List ℕ → ℕ → CheckPart
+worked_part why f core ir = action_or_part why f core (operands_or_part f.uses core ir)
 
--- the same by the row that was found: where there is none, its digits are no operation's
-abbrev pub fetched_part : Stop → Result Row Stop → List ℕ → ℕ → CheckPart
-fetched_part why (Ok r) core ir = worked_part why r core ir
+-- the same by what was found: where that is nothing, its digits are no operation's
+abbrev pub fetched_part : Stop → Result Found Stop → List ℕ → ℕ → CheckPart
+fetched_part why (Ok f) core ir = worked_part why f core ir
 fetched_part why (Err no_row) core ir = part.Instruction ir
 
 -- the part of the instruction at ir, fetched or not

@@ -10,6 +10,10 @@ use Rattle.addr_indirect.specs.Steps.{◌>>=◌}
 use Rattle.addr_indirect.specs.Fetch.{part}
 use Rattle.addr_indirect.specs.Operand.{further}
 use Rattle.addr_indirect.specs.Operands.{immediate_q}
+use Rattle.instruction_table.specs.declared.MayStore.{MayStore}
+use Rattle.traces.specs.Trace.{Trace}
+use Rattle.traces.specs.Break.{Break}
+use Rattle.cpu_step.specs.declared.rows.Row.{Row}
 use Rattle.cpu_step.specs.declared.rows.Uses.{Uses}
 use Rattle.cpu_step.specs.declared.rows.Uses.TheVariants as uses
 use Rattle.cpu_step.specs.declared.rows.Operands.{Operands}
@@ -17,6 +21,9 @@ use Rattle.cpu_step.specs.declared.fields.FieldKind.{FieldKind}
 use Rattle.cpu_step.specs.declared.fields.FieldKind.TheVariants.{Immediate, Address, Chain, Undecimal}
 use Rattle.cpu_step.specs.declared.fields.Fields.{Fields}
 use Rattle.cpu_step.specs.Operands.{operands}
+use Rattle.cpu_step.specs.State.{State}
+use Rattle.cpu_step.specs.Effects.{Effect}
+use Rattle.cpu_step.specs.Act.{Next, act_with}
 
 -- the value of an instruction's digit, None where it is over 9
 abbrev pub decimal_part : Instr → ℕ → Option ℕ
@@ -49,27 +56,28 @@ abbrev pub field_from : Instr → ℕ → ℕ × FieldKind
 field_from i k = (number_or_zero (number_in i k 5), kind_of (number_in i k 5) (slice_index_or i.cells k (unflagged_digit 0)).flag)
 
 -- P's field, whose units are P6, and Q's, whose units are Q11
-abbrev pub both_fields : Instr → Bool → Fields
-both_fields i odd = record {
+abbrev pub both_fields : Instr → Bool → MayStore → Fields
+both_fields i odd stores = record {
   p = (field_from i 6).0;
   q = (field_from i 11).0;
   p_kind = (field_from i 6).1;
   q_kind = (field_from i 11).1;
   odd = odd;
+  stores = stores;
 }
 
 -- P's alone, and what the other holds
-abbrev pub first_field : Instr → FieldKind → Bool → Fields
-first_field i other odd = record { p = (field_from i 6).0; q = 0; p_kind = (field_from i 6).1; q_kind = other; odd = odd }
+abbrev pub first_field : Instr → FieldKind → Bool → MayStore → Fields
+first_field i other odd stores = record { p = (field_from i 6).0; q = 0; p_kind = (field_from i 6).1; q_kind = other; odd = odd; stores = stores }
 
--- the fields of an instruction that uses these operands; one that isn't used is the address 0
-abbrev pub fields_used : Uses → Instr → Fields
-fields_used uses.Both i = both_fields i false
-fields_used uses.OddBoth i = both_fields i true
-fields_used uses.Immediate i = first_field i Immediate false
-fields_used uses.First i = first_field i Address false
-fields_used uses.OddFirst i = first_field i Address true
-fields_used uses.Neither i = record { p = 0; q = 0; p_kind = Address; q_kind = Address; odd = false }
+-- the fields of an instruction that uses these operands, and may store so; one that isn't used is the address 0
+abbrev pub fields_used : Uses → MayStore → Instr → Fields
+fields_used uses.Both stores i = both_fields i false stores
+fields_used uses.OddBoth stores i = both_fields i true stores
+fields_used uses.Immediate stores i = first_field i Immediate false stores
+fields_used uses.First stores i = first_field i Address false stores
+fields_used uses.OddFirst stores i = first_field i Address true stores
+fields_used uses.Neither stores i = record { p = 0; q = 0; p_kind = Address; q_kind = Address; odd = false; stores = stores }
 
 -- a chain begins at a field
 abbrev pub is_chain : FieldKind → Bool
@@ -110,3 +118,7 @@ operands_at ir f = record { p = f.p; q = number_or_own ir f.q_kind f.q }
 -- the operands that fields hold are those of the instruction at ir in this core, which uses these
 abbrev pub HoldOperands : Uses → List ℕ → ℕ → Fields → Type 0
 HoldOperands u core ir f = operands_from f core ir ≡ operands u core ir
+
+-- the action of a row over the operands that fields hold
+abbrev pub act_over : Row → Fields → State → Trace Effect Next Break
+act_over r f s = act_with r (operands_from f s.core s.regs.ir) s

@@ -1,19 +1,23 @@
 -- What the twelve cells of an instruction come to, in whatever core and at whatever address they stand.
-use Rattle.std.specs.Prelude.{ℕ, ◌≡◌, ◌+◌, ◌*◌, ◌/◌, ◌%◌, ◌^◌, ◌<◌, ◌≤◌, ⊤, false, List, [], ◌∷◌, length, slice_index, Result, Ok, Err}
+use Rattle.std.specs.Prelude.{ℕ, ◌≡◌, ◌+◌, ◌*◌, ◌/◌, ◌%◌, ◌^◌, ◌<◌, ◌≤◌, ⊤, false, true, List, [], ◌∷◌, length, slice_index, Result, Ok, Err}
 use Rattle.digit_core.specs.declared.Digit.{Digit}
 use Rattle.digit_core.specs.{digit_of_cell, six, is_bad, size}
 use Rattle.addr_indirect.specs.declared.Instr.{Instr}
 use Rattle.addr_indirect.specs.declared.Stop.{Stop}
 use Rattle.addr_indirect.specs.{fetch}
+use Rattle.instruction_table.specs.declared.MayStore.{MayStore}
+use Rattle.instruction_table.specs.declared.MayStore.TheVariants.{Nothing}
 use Rattle.branch_ops.specs.declared.BranchOp.TheVariants.{B}
 use Rattle.cpu_step.specs.declared.rows.Row.{Row}
 use Rattle.cpu_step.specs.declared.rows.Row.TheVariants as row
-use Rattle.cpu_step.specs.declared.rows.Uses.TheVariants.{OddBoth, OddFirst}
+use Rattle.cpu_step.specs.declared.rows.Uses.{Uses}
+use Rattle.cpu_step.specs.declared.rows.Uses.TheVariants.{Neither}
+use Rattle.cpu_step.specs.declared.rows.Found.{Found}
 use Rattle.cpu_step.specs.declared.rows.Operands.{Operands}
 use Rattle.cpu_step.specs.declared.fields.Fields.{Fields}
 use Rattle.cpu_step.specs.declared.memo.Known.{Known}
 use Rattle.cpu_step.specs.declared.memo.Known.TheVariants as known
-use Rattle.cpu_step.specs.Rows.{instruction_row, uses}
+use Rattle.cpu_step.specs.Rows.{instruction_row, takes_odd}
 use Rattle.cpu_step.specs.Act.{operands}
 use Rattle.cpu_step.specs.Fields.{fields_used, operands_from, operands_at, HoldOperands}
 
@@ -50,10 +54,15 @@ pub record AreSettled (n : ℕ) (f : Fields) : Type 0 where
   pub p_below : f.p < n
   pub q_below : (ir : ℕ) → ir + 12 ≤ n → (operands_at ir f).q < n
 
+-- what an instruction is that has this row, and fields that tell what it may store
+abbrev pub found_with : Row → Uses → MayStore → Found
+found_with row uses stores = record { row = row; uses = uses; stores = stores }
+
 -- a row, and its fields
 pub record IsRow (i : Instr) (row : Row) (f : Fields) : Type 0 where
-  pub row_is : instruction_row i ≡ Ok row
-  pub fields_are : f ≡ fields_used (uses row) i
+  pub uses : Uses
+  pub row_is : instruction_row i ≡ Ok (found_with row uses f.stores)
+  pub fields_are : f ≡ fields_used uses f.stores i
 
 -- the row and the fields of an instruction, or the stop where it has no row
 abbrev pub Decodes : Instr → Result (Row × Fields) Stop → Type 0
@@ -75,39 +84,51 @@ IsKnown i n (known.Row row f) = IsRow i row f × AreSettled n f
 IsKnown i n (known.Chained row f) = IsRow i row f
 IsKnown i n known.Other = ⊤
 
--- the instruction at ir is of this row, over these operands
-pub record ComesToRow (core : List ℕ) (ir low high : ℕ) (row : Row) (o : Operands) : Type 0 where
+-- the operands that what is found uses
+abbrev pub uses_in : Result Found Stop → Uses
+uses_in (Ok f) = f.uses
+uses_in (Err why) = Neither
+
+abbrev pub uses_at : ℕ → ℕ → ℕ → Uses
+uses_at ir low high = uses_in (instruction_row (instr_at ir low high))
+
+-- the instruction at ir is of this row, over these operands, and may store so
+pub record ComesToRow (core : List ℕ) (ir low high : ℕ) (row : Row) (stores : MayStore) (o : Operands) : Type 0 where
   pub fetched : fetch core ir ≡ Ok (instr_at ir low high)
-  pub row_is : instruction_row (instr_at ir low high) ≡ Ok row
-  pub operands_are : operands (uses row) core ir ≡ Ok o
+  pub row_is : instruction_row (instr_at ir low high) ≡ Ok (found_with row (uses_at ir low high) stores)
+  pub operands_are : operands (uses_at ir low high) core ir ≡ Ok o
   pub inside : ir + 12 ≤ length core
   pub p_inside : o.p < length core
   pub q_inside : o.q < length core
-  pub odd : uses row ≡ OddFirst → o.p % 2 ≡ 1
-  pub odd_pairs : uses row ≡ OddBoth → o.p % 2 ≡ 1
+  pub odd : takes_odd row ≡ true → o.p % 2 ≡ 1
 
 -- the indicator that a branch's row names
-abbrev pub code_in : Result Row Stop → ℕ
-code_in (Ok (row.Branch b code)) = code
-code_in r = 0
+abbrev pub code_of_row : Row → ℕ
+code_of_row (row.Branch b code) = code
+code_of_row r = 0
+
+abbrev pub code_in : Result Found Stop → ℕ
+code_in (Ok f) = code_of_row f.row
+code_in (Err why) = 0
 
 -- it is B, to p
 abbrev pub ComesToB : List ℕ → ℕ → ℕ → ℕ → ℕ → Type 0
 ComesToB core ir low high p =
-    ComesToRow core ir low high (row.Branch B (code_in (instruction_row (instr_at ir low high)))) (record { p = p; q = 0 })
+    ComesToRow core ir low high (row.Branch B (code_in (instruction_row (instr_at ir low high)))) Nothing (record { p = p; q = 0 })
 
 -- it is of this row, over fields whose operands aren't worked out
 pub record ComesToChained (core : List ℕ) (ir low high : ℕ) (row : Row) (f : Fields) : Type 0 where
   pub fetched : fetch core ir ≡ Ok (instr_at ir low high)
-  pub row_is : instruction_row (instr_at ir low high) ≡ Ok row
-  pub operands_are : HoldOperands (uses row) core ir f
+  pub row_is : instruction_row (instr_at ir low high) ≡ Ok (found_with row (uses_at ir low high) f.stores)
+  pub operands_are : HoldOperands (uses_at ir low high) core ir f
   pub inside : ir + 12 ≤ length core
+  pub odd : takes_odd row ≡ true → f.odd ≡ true
 
 -- what the instruction at ir, which these two words hold, comes to; of any other nothing is said
 pub record ComesTo (core : List ℕ) (ir low high : ℕ) (k : Known) : Type 0 where
   pub to_b : (p : ℕ) → k ≡ known.Goes p → ComesToB core ir low high p
   pub to_row : (row : Row) (f : Fields) → k ≡ known.Row row f
-      → ComesToRow core ir low high row (operands_at ir f)
+      → ComesToRow core ir low high row f.stores (operands_at ir f)
   pub to_chained : (row : Row) (f : Fields) → k ≡ known.Chained row f
       → ComesToChained core ir low high row f
 

@@ -5,23 +5,13 @@ use Rattle.digit_core.specs.Search.{has_mark}
 use Rattle.addr_indirect.specs.declared.Stop.{Stop}
 use Rattle.addr_indirect.specs.declared.Instr.{Instr}
 use Rattle.addr_indirect.specs.{fetch}
-use Rattle.branch_ops.specs.declared.BranchOp.{BranchOp}
-use Rattle.branch_ops.specs.declared.BranchOp.TheVariants as op
-use Rattle.cpu_step.specs.declared.rows.Row.{Row}
-use Rattle.cpu_step.specs.declared.rows.Row.TheVariants as row
-use Rattle.cpu_step.specs.declared.rows.MoveOp.{MoveOp}
-use Rattle.cpu_step.specs.declared.rows.MoveOp.TheVariants as moves
-use Rattle.cpu_step.specs.declared.rows.InOutRow.{InOutRow}
-use Rattle.cpu_step.specs.declared.rows.InOutRow.TheVariants as io
-use Rattle.cpu_step.specs.declared.rows.ConsoleRow.{ConsoleRow}
-use Rattle.cpu_step.specs.declared.rows.ConsoleRow.TheVariants as console
-use Rattle.cpu_step.specs.declared.rows.CardRow.{CardRow}
-use Rattle.cpu_step.specs.declared.rows.CardRow.TheVariants as cards
+use Rattle.instruction_table.specs.declared.MayStore.{MayStore}
+use Rattle.instruction_table.specs.declared.MayStore.TheVariants as column
 use Rattle.cpu_step.specs.declared.rows.Operands.{Operands}
 use Rattle.cpu_step.specs.declared.stores.Stores.{Stores}
 use Rattle.cpu_step.specs.declared.stores.Stores.TheVariants.{Nothing, Cell, Down, Up, Anywhere}
 use Rattle.cpu_step.specs.declared.machine.Machine.{Machine}
-use Rattle.cpu_step.specs.Rows.{instruction_row, uses}
+use Rattle.cpu_step.specs.Rows.{instruction_row}
 use Rattle.cpu_step.specs.Operands.{operands}
 use Rattle.cpu_step.specs.State.{State}
 use Rattle.cpu_step.specs.Step.{step}
@@ -74,75 +64,29 @@ IsBelow Anywhere n = ⊤
 abbrev pub ShowsTheSame : (m : ℕ) → Machine m → Machine m → Type 0
 ShowsTheSame m old new = new ≡ record old { memo = new.memo }
 
--- what the rows of the typewriter, its keyboard, the card reader and the punch may store
-abbrev pub console_stores : ConsoleRow → Stores
-console_stores console.Space = Nothing
-console_stores console.Return = Nothing
-console_stores console.Tab = Nothing
-console_stores console.Dump = Nothing
-console_stores console.WriteNumeric = Nothing
-console_stores console.WriteAlpha = Nothing
-console_stores console.ReadNumeric = Anywhere
-console_stores console.ReadAlpha = Anywhere
+-- a field whose units are below p; there is none below 00000
+abbrev pub down_below : ℕ → Stores
+down_below p = if p == 0 then Nothing else Down (p - 1)
 
-abbrev pub card_stores : CardRow → Stores
-card_stores cards.Dump = Nothing
-card_stores cards.PunchNumeric = Nothing
-card_stores cards.PunchAlpha = Nothing
-card_stores cards.ReadNumeric = Anywhere
-card_stores cards.ReadAlpha = Anywhere
-
-abbrev pub unit_stores : InOutRow → Stores
-unit_stores (io.Console r) = console_stores r
-unit_stores (io.Cards r) = card_stores r
-unit_stores (io.Disk r) = Anywhere
-
--- what each operation that moves or changes digits in core may store over its operands
-abbrev pub move_stores : MoveOp → Operands → Stores
-move_stores (moves.Digit second) o = Cell o.p
-move_stores (moves.Field second) o = Down o.p
-move_stores moves.Record o = Up o.p
-move_stores moves.SetFlag o = Cell o.p
-move_stores moves.ClearFlag o = Cell o.p
-move_stores moves.Flag o = Anywhere
-move_stores moves.Strip o = Down o.q
-move_stores moves.Fill o = Down o.p
-
--- what BT and BTM may store: the field whose units are at P-1
-abbrev pub transmit_stores : ℕ → Stores
-transmit_stores p = if p == 0 then Nothing else Down (p - 1)
-
--- what each branch may store over P
-abbrev pub branch_stores : BranchOp → ℕ → Stores
-branch_stores op.Bt p = transmit_stores p
-branch_stores op.Btm p = transmit_stores p
-branch_stores op.Bb p = Nothing
-branch_stores op.Bd p = Nothing
-branch_stores op.Bnf p = Nothing
-branch_stores op.Bnr p = Nothing
-branch_stores op.Bng p = Nothing
-branch_stores op.Bi p = Nothing
-branch_stores op.Bni p = Nothing
-branch_stores op.B p = Nothing
-
--- what each row may store over its operands
-abbrev pub row_stores : Row → Operands → Stores
-row_stores (row.Sum kind second) o = Down o.p
-row_stores (row.Compare second) o = Nothing
-row_stores (row.Move op) o = move_stores op o
-row_stores (row.InOut r) o = unit_stores r
-row_stores (row.Branch b code) o = branch_stores b o.p
-row_stores row.Nop o = Nothing
-row_stores row.H o = Nothing
+-- what an instruction may store over its operands, by its column; of what is left to the device nothing is known
+abbrev pub stores_by : MayStore → Operands → Stores
+stores_by column.Nothing o = Nothing
+stores_by column.Cell o = Cell o.p
+stores_by column.Down o = Down o.p
+stores_by column.DownBelow o = down_below o.p
+stores_by column.DownFromQ o = Down o.q
+stores_by column.Up o = Up o.p
+stores_by column.Anywhere o = Anywhere
+stores_by column.ByDevice o = Anywhere
 
 -- what a reading stops stores nothing
 abbrev pub or_nothing : {A : Type 0} → Result A Stop → (A → Stores) → Stores
 or_nothing (Ok x) f = f x
 or_nothing (Err why) f = Nothing
 
--- what the instruction at ir may store, once it's fetched, over the operands of its row
+-- what the instruction at ir may store, once it's fetched, over its operands
 abbrev pub fetched_stores : Instr → List ℕ → ℕ → Stores
-fetched_stores i core ir = or_nothing (instruction_row i) (λ r. or_nothing (operands (uses r) core ir) (λ o. row_stores r o))
+fetched_stores i core ir = or_nothing (instruction_row i) (λ f. or_nothing (operands f.uses core ir) (λ o. stores_by f.stores o))
 
 -- what the instruction at ir may store
 abbrev pub stores_at : List ℕ → ℕ → Stores

@@ -1,11 +1,9 @@
 // What the rows do.
-ghost use Rattle.std.specs.Prelude.{◌≡◌, ◌<◌, ◌≤◌, ◌+◌, ◌%◌};
+ghost use Rattle.std.specs.Prelude.{◌≡◌, ◌<◌, ◌≤◌, ◌+◌, ◌%◌, true};
 ghost use Rattle.digit_core.specs.Size.{size};
 ghost use Rattle.traces.specs.Stored.{Did};
-ghost use Rattle.cpu_step.specs.Rows.{move_uses};
-ghost use Rattle.cpu_step.specs.declared.rows.Uses.{Uses};
+ghost use Rattle.cpu_step.specs.Rows.{move_takes_odd};
 ghost use Rattle.cpu_step.specs.Act.{move_of};
-ghost use Rattle.cpu_step.specs.Fields.{HoldOperands};
 
 use crate::ends::{
     branch_outcome, card_outcome, core_outcome, disk_outcome, keyboard_outcome, typing_outcome,
@@ -23,16 +21,17 @@ use table_arith::{add, compare};
 
 impl<const M: u32> Machine<M> {
     ghost use Rattle.branch_ops.specs.Registers.{on_at};
-    ghost use Rattle.cpu_step.specs.Act.{act, on_console, on_cards, on_disk};
-    ghost use Rattle.cpu_step.specs.Rows.{uses, uses_of, console_uses, card_uses};
+    ghost use Rattle.cpu_step.specs.Act.{on_console, on_cards, on_disk};
+    ghost use Rattle.cpu_step.specs.Fields.{act_over};
+    ghost use Rattle.cpu_step.specs.Rows.{takes_odd, unit_takes_odd, console_takes_odd, cards_take_odd};
     ghost use Rattle.cpu_step.specs.Machine.{Acts, BranchActs, RowActs, UnitActs};
 
-    // Works the operands of a row out, and does its action.
+    // Works the operands that these fields hold out, and does the action of this row.
     #[inline(always)]
     pub(crate) fn act<H: Host>(&mut self, row: Row, fields: Fields, host: &mut H) -> Outcome
         requires inside { self.old.regs.ir + 12 ≤ size M }
-        requires operands { HoldOperands (uses row) self.old.core self.old.regs.ir fields }
-        ensures { Acts M (act row) self.old self.new (H.seen host.old) (H.seen host.new) result }
+        requires odd { takes_odd row ≡ true → fields.odd ≡ true }
+        ensures { Acts M (act_over row fields) self.old self.new (H.seen host.old) (H.seen host.new) result }
     {
         match self.memo.operands(fields, &self.core, self.regs.ir) {
             Ok(o) => self.action(row, o, host),
@@ -46,8 +45,7 @@ impl<const M: u32> Machine<M> {
         requires ir { self.old.regs.ir + 12 ≤ size M }
         requires p { o.p < size M }
         requires q { o.q < size M }
-        requires odd { uses row ≡ Uses.OddFirst → o.p % 2 ≡ 1 }
-        requires odd_pairs { uses row ≡ Uses.OddBoth → o.p % 2 ≡ 1 }
+        requires odd { takes_odd row ≡ true → o.p % 2 ≡ 1 }
         ensures { RowActs M row o self.old self.new (H.seen host.old) (H.seen host.new) result }
     {
         let regs = self.next();
@@ -88,7 +86,7 @@ impl<const M: u32> Machine<M> {
         host: &mut H,
     ) -> Outcome
         requires p { p < size M }
-        requires odd { uses_of row ≡ Uses.OddFirst → p % 2 ≡ 1 }
+        requires odd { unit_takes_odd row ≡ true → p % 2 ≡ 1 }
         requires regs { regs ≡ on_at self.old.regs (self.old.regs.ir + 12) }
         ensures { UnitActs M row p self.old self.new (H.seen host.old) (H.seen host.new) result }
     {
@@ -103,7 +101,7 @@ impl<const M: u32> Machine<M> {
     #[inline(always)]
     fn console<H: Host>(&mut self, row: ConsoleRow, p: u32, regs: Regs, host: &mut H) -> Outcome
         requires p { p < size M }
-        requires odd { console_uses row ≡ Uses.OddFirst → p % 2 ≡ 1 }
+        requires odd { console_takes_odd row ≡ true → p % 2 ≡ 1 }
         requires regs { regs ≡ on_at self.old.regs (self.old.regs.ir + 12) }
         ensures { Acts M (on_console row p) self.old self.new (H.seen host.old) (H.seen host.new) result }
     {
@@ -139,7 +137,7 @@ impl<const M: u32> Machine<M> {
     #[inline(always)]
     fn cards<H: Host>(&mut self, row: CardRow, p: u32, regs: Regs, host: &mut H) -> Outcome
         requires p { p < size M }
-        requires odd { card_uses row ≡ Uses.OddFirst → p % 2 ≡ 1 }
+        requires odd { cards_take_odd row ≡ true → p % 2 ≡ 1 }
         requires regs { regs ≡ on_at self.old.regs (self.old.regs.ir + 12) }
         ensures { Acts M (on_cards row p) self.old self.new (H.seen host.old) (H.seen host.new) result }
     {
@@ -210,7 +208,7 @@ pub(crate) fn make_move<const M: u32>(
 ) -> Result<(), Stop>
     requires p { o.p < size M }
     requires q { o.q < size M }
-    requires odd_pairs { move_uses op ≡ Uses.OddBoth → o.p % 2 ≡ 1 }
+    requires odd { move_takes_odd op ≡ true → o.p % 2 ≡ 1 }
     ensures { Did core.old (move_of op o core.old) core.new result }
 {
     match op {

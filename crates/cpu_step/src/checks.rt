@@ -7,7 +7,7 @@ ghost use Rattle.cpu_step.specs.Rows.{instruction_row};
 ghost use Rattle.cpu_step.specs.Checks.{action_cell, cell_over_nine, chain_end, check_part, fetched_part, field_after, field_length, first_unread, is_over_nine, nearer, operands_or_part, over_nine_down, over_nine_in_control, over_nine_in_step, p_or_part, p_part, part_of, q_or_part, q_part, q_used, unfetched_cell, wants_odd, worked_part};
 ghost use Rattle.addr_indirect.specs.Fetch.{fetch};
 
-use crate::rows::{InOutRow, Operands, Row, Uses, row_of};
+use crate::rows::{Found, InOutRow, Operands, Row, Uses, row_of};
 use addr_indirect::{
     Instr, LOWEST_UNITS, Stop, decimal_at, fetch, immediate_q, p_operand, q_operand, read_at,
 };
@@ -112,17 +112,17 @@ fn fetched_part<const M: u32>(core: &Core<M>, why: Stop, ir: u32, i: &Instr) -> 
     ensures { result ≡ fetched_part why (instruction_row i.now) core.now ir }
 {
     match row_of(i) {
-        Ok(row) => worked_part(core, why, ir, row),
+        Ok(found) => worked_part(core, why, ir, found),
         Err(_) => CheckPart::Instruction { cell: ir },
     }
 }
 
-// The part of an instruction that was fetched and has this row.
-fn worked_part<const M: u32>(core: &Core<M>, why: Stop, ir: u32, row: Row) -> CheckPart
+// The part of an instruction that was fetched and is this one.
+fn worked_part<const M: u32>(core: &Core<M>, why: Stop, ir: u32, found: Found) -> CheckPart
     requires { ir + 12 ≤ size M }
-    ensures { result ≡ worked_part why row core.now ir }
+    ensures { result ≡ worked_part why found core.now ir }
 {
-    let uses = row.uses();
+    let Found { row, uses, .. } = found;
     match operands_or_part(core, ir, uses) {
         Ok(o) => CheckPart::Action {
             p: o.p,

@@ -8,9 +8,10 @@ ghost use Rattle.cpu_step.specs.Operands.{operands};
 ghost use Rattle.addr_indirect.specs.Fetch.{fetch};
 
 use crate::further::FurtherFields;
-use crate::rows::{Operands, Row, Uses, row_of};
+use crate::rows::{Found, Operands, Row, Uses, row_of};
 use addr_indirect::{Instr, LOWEST_UNITS, Stop, further, immediate_q};
 use digit_core::Core;
+use instruction_table::MayStore;
 
 // What an instruction's field holds of an operand.
 #[derive(Clone, Copy)]
@@ -26,7 +27,7 @@ enum FieldKind {
 }
 
 // The fields of an instruction that hold its operands: the numbers of P's and Q's, 0 where there is none, what they hold, and whether P
-// must be odd. An operand that isn't used is the address 0.
+// must be odd; and the cells that it may store over its operands. An operand that isn't used is the address 0.
 #[derive(Clone, Copy)]
 pub(crate) struct Fields {
     pub(crate) p: u32,
@@ -34,6 +35,7 @@ pub(crate) struct Fields {
     p_kind: FieldKind,
     q_kind: FieldKind,
     odd: bool,
+    pub(crate) stores: MayStore,
 }
 
 // An instruction's row and its fields. All that an instruction does, and all that is said of it, is found by this: in a step, in what is
@@ -43,16 +45,16 @@ pub(crate) fn decoded_row(i: &Instr) -> Result<(Row, Fields), Stop>
     ensures { Decodes i.now result }
 {
     match row_of(i) {
-        Ok(row) => Ok((row, Fields::of(row.uses(), i))),
+        Ok(Found { row, uses, stores }) => Ok((row, Fields::of(uses, stores, i))),
         Err(stop) => Err(stop),
     }
 }
 
 impl Fields {
-    // Those of an instruction that uses these operands.
-    fn of(uses: Uses, i: &Instr) -> Self
+    // Those of an instruction that uses these operands, and may store so.
+    fn of(uses: Uses, stores: MayStore, i: &Instr) -> Self
         requires { length i.now.cells ≡ 12 }
-        ensures { result ≡ fields_used uses i.now }
+        ensures { result ≡ fields_used uses stores i.now }
     {
         let (p, p_kind) = field(i, 6);
         let (q, q_kind) = field(i, 11);
@@ -62,6 +64,7 @@ impl Fields {
             p_kind,
             q_kind,
             odd: false,
+            stores,
         };
         let first = Fields {
             q: 0,
@@ -109,7 +112,7 @@ impl Fields {
     #[inline(always)]
     pub(crate) fn operands<const M: u32>(self, core: &Core<M>, ir: u32) -> Result<Operands, Stop>
         requires { ir + 12 ≤ size M }
-        ensures is { (uses : Uses) (i : Instr) → fetch core.now ir ≡ Ok i → self ≡ fields_used uses i → result ≡ operands uses core.now ir }
+        ensures is { (uses : Uses) (i : Instr) → fetch core.now ir ≡ Ok i → self ≡ fields_used uses self.stores i → result ≡ operands uses core.now ir }
         ensures from { result ≡ operands_from self core.now ir }
         ensures p { IfOk result (λ o. o.p < size M) }
         ensures q { IfOk result (λ o. o.q < size M) }
@@ -136,6 +139,7 @@ impl Fields {
         ensures from { result ≡ operands_from self core.now ir }
         ensures p { IfOk result (λ o. o.p < size M) }
         ensures q { IfOk result (λ o. o.q < size M) }
+        ensures odd { self.odd ≡ true → IfOk result (λ o. o.p % 2 ≡ 1) }
     {
         let p = operand_by(known, core, ir, self.p_kind, self.p)?;
         let q = operand_by(known, core, ir, self.q_kind, self.q)?;

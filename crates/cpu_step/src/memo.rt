@@ -169,6 +169,7 @@ impl<const M: u32> Memo<M> {
         ensures from { result ≡ operands_from fields core.now ir }
         ensures p { IfOk result (λ o. o.p < size M) }
         ensures q { IfOk result (λ o. o.q < size M) }
+        ensures odd { fields.odd ≡ true → IfOk result (λ o. o.p % 2 ≡ 1) }
     {
         fields.operands_by(&mut self.further, core, ir)
     }

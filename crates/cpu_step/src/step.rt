@@ -1,5 +1,5 @@
 // One step: the instruction at IR.
-ghost use Rattle.std.specs.Prelude.{◌≡◌, ◌<◌, ◌≤◌, ◌+◌, ◌%◌};
+ghost use Rattle.std.specs.Prelude.{◌≡◌, ◌<◌, ◌≤◌, ◌+◌, ◌%◌, true};
 ghost use Rattle.digit_core.specs.Size.{size};
 
 use crate::act::make_move;
@@ -7,7 +7,7 @@ use crate::ends::{check_stop, core_outcome, show_parity};
 use crate::fields::decoded_row;
 use crate::machine::{Machine, Mode, Outcome, Turned};
 use crate::memo::Known;
-use crate::rows::{InOutRow, Operands, Row, Uses};
+use crate::rows::{InOutRow, Operands, Row};
 use addr_indirect::{Stop, fetch};
 use branch_ops::{BranchOp, BranchOperands, Regs};
 use outside_io::Host;
@@ -16,7 +16,7 @@ use table_arith::{add, compare};
 impl<const M: u32> Machine<M> {
     ghost use Rattle.cpu_step.specs.Step.{instruction};
     ghost use Rattle.branch_ops.specs.Registers.{on_at};
-    ghost use Rattle.cpu_step.specs.Rows.{uses, uses_of};
+    ghost use Rattle.cpu_step.specs.Rows.{takes_odd, unit_takes_odd};
     ghost use Rattle.cpu_step.specs.Machine.{Acts, Steps, Settles, RowSettles, UnitSettles, BranchSettles, InstructionSettles, stopped_machine};
 
     /// One step: the instruction at IR.
@@ -51,8 +51,7 @@ impl<const M: u32> Machine<M> {
         requires ir { self.old.regs.ir + 12 ≤ size M }
         requires p { o.p < size M }
         requires q { o.q < size M }
-        requires odd { uses row ≡ Uses.OddFirst → o.p % 2 ≡ 1 }
-        requires odd_pairs { uses row ≡ Uses.OddBoth → o.p % 2 ≡ 1 }
+        requires odd { takes_odd row ≡ true → o.p % 2 ≡ 1 }
         ensures { RowSettles M row o self.old self.new (H.seen host.old) (H.seen host.new) result }
     {
         let regs = self.next();
@@ -80,7 +79,7 @@ impl<const M: u32> Machine<M> {
     #[inline(always)]
     fn in_out_step<H: Host>(&mut self, row: InOutRow, p: u32, regs: Regs, host: &mut H) -> Turned
         requires p { p < size M }
-        requires odd { uses_of row ≡ Uses.OddFirst → p % 2 ≡ 1 }
+        requires odd { unit_takes_odd row ≡ true → p % 2 ≡ 1 }
         requires regs { regs ≡ on_at self.old.regs (self.old.regs.ir + 12) }
         ensures { UnitSettles M row p self.old self.new (H.seen host.old) (H.seen host.new) result }
     {

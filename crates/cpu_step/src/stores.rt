@@ -2,15 +2,15 @@
 ghost use Rattle.std.specs.Prelude.{◌≡◌, ◌+◌, ◌≤◌, length, Ok};
 ghost use Rattle.digit_core.specs.Size.{size};
 ghost use Rattle.addr_indirect.specs.Fetch.{fetch};
-ghost use Rattle.cpu_step.specs.Stores.{IsBelow, StepStores, branch_stores, card_stores, console_stores, fetched_stores, move_stores, row_stores, stores_at, unit_stores};
+ghost use Rattle.cpu_step.specs.Stores.{IsBelow, StepStores, fetched_stores, stores_at, stores_by};
 
 use crate::fields::decoded_row;
 use crate::machine::Machine;
 use crate::memo::Known;
-use crate::rows::{CardRow, ConsoleRow, InOutRow, MoveOp, Operands, Row};
+use crate::rows::Operands;
 use addr_indirect::{Instr, fetch};
-use branch_ops::BranchOp;
 use digit_core::Core;
+use instruction_table::MayStore;
 
 /// The cells that a step may store; all others stay as they are.
 ///
@@ -51,7 +51,7 @@ impl<const M: u32> Machine<M> {
         let ir = self.regs.ir;
         match self.memo.look(&self.core, ir) {
             Known::Goes { .. } => Stores::Nothing,
-            Known::Row { row, fields } => row_stores(row, fields.at(ir)),
+            Known::Row { fields, .. } => stores_by(fields.stores, fields.at(ir)),
             Known::Chained { .. } | Known::Other => decoded_stores(&self.core, ir),
         }
     }
@@ -82,83 +82,31 @@ fn fetched_stores<const M: u32>(core: &Core<M>, ir: u32, i: &Instr) -> Stores
 {
     core.size_law();
     match decoded_row(i) {
-        Ok((row, fields)) => match fields.operands(core, ir) {
-            Ok(o) => row_stores(row, o),
+        Ok((_, fields)) => match fields.operands(core, ir) {
+            Ok(o) => stores_by(fields.stores, o),
             Err(_) => Stores::Nothing,
         },
         Err(_) => Stores::Nothing,
     }
 }
 
-// What a row may store over its operands.
-fn row_stores(row: Row, o: Operands) -> Stores
-    ensures { result ≡ row_stores row o }
+// What an instruction may store over its operands, by the table's column.
+fn stores_by(stores: MayStore, o: Operands) -> Stores
+    ensures { result ≡ stores_by stores o }
 {
-    match row {
-        Row::Sum(_, _) => Stores::Down(o.p),
-        Row::Compare(_) | Row::Nop | Row::H => Stores::Nothing,
-        Row::Move(op) => move_stores(op, o),
-        Row::InOut(row) => unit_stores(row),
-        Row::Branch { op, .. } => branch_stores(op, o.p),
-    }
-}
-
-// What an operation that moves or changes digits in core may store over its operands.
-fn move_stores(op: MoveOp, o: Operands) -> Stores
-    ensures { result ≡ move_stores op o }
-{
-    match op {
-        MoveOp::Digit(_) | MoveOp::SetFlag | MoveOp::ClearFlag => Stores::Cell(o.p),
-        MoveOp::Field(_) | MoveOp::Fill => Stores::Down(o.p),
-        MoveOp::Strip => Stores::Down(o.q),
-        MoveOp::Record => Stores::Up(o.p),
-        MoveOp::Flag => Stores::Anywhere,
-    }
-}
-
-// What a row of the input and output units may store.
-fn unit_stores(row: InOutRow) -> Stores
-    ensures { result ≡ unit_stores row }
-{
-    match row {
-        InOutRow::Console(row) => console_stores(row),
-        InOutRow::Cards(row) => card_stores(row),
-        InOutRow::Disk(_) => Stores::Anywhere,
-    }
-}
-
-// What a row of the typewriter and its keyboard may store.
-fn console_stores(row: ConsoleRow) -> Stores
-    ensures { result ≡ console_stores row }
-{
-    match row {
-        ConsoleRow::ReadNumeric | ConsoleRow::ReadAlpha => Stores::Anywhere,
-        _ => Stores::Nothing,
-    }
-}
-
-// What a row of the card reader or the punch may store.
-fn card_stores(row: CardRow) -> Stores
-    ensures { result ≡ card_stores row }
-{
-    match row {
-        CardRow::ReadNumeric | CardRow::ReadAlpha => Stores::Anywhere,
-        _ => Stores::Nothing,
-    }
-}
-
-// What a branch may store over P: BT and BTM the field whose units are at P-1.
-fn branch_stores(op: BranchOp, p: u32) -> Stores
-    ensures { result ≡ branch_stores op p }
-{
-    match op {
-        BranchOp::Bt | BranchOp::Btm => {
-            if p == 0 {
+    match stores {
+        MayStore::Nothing => Stores::Nothing,
+        MayStore::Cell => Stores::Cell(o.p),
+        MayStore::Down => Stores::Down(o.p),
+        MayStore::DownBelow => {
+            if o.p == 0 {
                 Stores::Nothing
             } else {
-                Stores::Down(p - 1)
+                Stores::Down(o.p - 1)
             }
         }
-        _ => Stores::Nothing,
+        MayStore::DownFromQ => Stores::Down(o.q),
+        MayStore::Up => Stores::Up(o.p),
+        MayStore::Anywhere | MayStore::ByDevice => Stores::Anywhere,
     }
 }

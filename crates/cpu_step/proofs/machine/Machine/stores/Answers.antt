@@ -1,41 +1,39 @@
 -- What the instruction comes to says what its step may store.
 use Rattle.std.proofs.Common.{refl, arith}
 use Rattle.cpu_step.specs.Fields.{operands_at}
-use Rattle.cpu_step.proofs.StepStores.{row_says, row_step, row_below}
+use Rattle.cpu_step.proofs.StepStores.{row_says, known_step, stores_below}
 use Rattle.cpu_step.proofs.Quick.{in_size}
 use Rattle.cpu_step.proofs.machine.Machine.stores.Goals as goal
 
 pub returns-in-Goes-clause-is : goal.returns-in-Goes-clause-is
 returns-in-Goes-clause-is g c =
-    let says = row_says _ _ _ _ _ _ (c.in-Goes.ensures.comes.to_b c.in-Goes.p refl) in
+    let says = row_says _ _ _ _ _ _ _ (c.in-Goes.ensures.comes.to_b c.in-Goes.p refl) in
     says
 
 pub returns-in-Goes-clause-within : goal.returns-in-Goes-clause-within
 returns-in-Goes-clause-within g c =
-    let k = c.in-Goes.ensures.comes.to_b c.in-Goes.p refl in
-    let steps = row_step _ _ _ k.fetched _ k.row_is _ k.operands_are k.p_inside k.q_inside k.odd_pairs in
+    let steps = known_step _ _ _ _ _ _ _ (c.in-Goes.ensures.comes.to_b c.in-Goes.p refl) in
     steps
 
 pub at-requires : goal.at-requires
 at-requires g c =
-    let k = c.in-Row.ensures.comes.to_row c.in-Row.row c.in-Row.fields refl in
+    let k = c.in-Row.ensures.comes.to_row _ c.in-Row.fields refl in
     in_size g.row.M c.args.self.now.core c.args.self.now.regs.ir c.size_law.ensures.is_size c.size_law.ensures.length k.inside
 
 pub returns-in-Row-clause-is : goal.returns-in-Row-clause-is
 returns-in-Row-clause-is g c =
-    rw (c.row_stores.ensures, c.at.ensures)
-    (row_says _ _ _ _ c.in-Row.row (operands_at c.args.self.now.regs.ir c.in-Row.fields) (c.in-Row.ensures.comes.to_row c.in-Row.row c.in-Row.fields refl))
+    rw (c.stores_by.ensures, c.at.ensures)
+    (row_says _ _ _ _ _ c.in-Row.fields.stores (operands_at c.args.self.now.regs.ir c.in-Row.fields) (c.in-Row.ensures.comes.to_row _ c.in-Row.fields refl))
 
 pub returns-in-Row-clause-below : goal.returns-in-Row-clause-below
 returns-in-Row-clause-below g c =
-    let k = c.in-Row.ensures.comes.to_row c.in-Row.row c.in-Row.fields refl in
+    let k = c.in-Row.ensures.comes.to_row _ c.in-Row.fields refl in
     let p = k.p_inside in
     let q = k.q_inside in
     let l = c.size_law.ensures.length in
-    rw (c.row_stores.ensures, c.at.ensures) (row_below c.in-Row.row (operands_at c.args.self.now.regs.ir c.in-Row.fields) _ (omega arith) (omega arith))
+    rw (c.stores_by.ensures, c.at.ensures) (stores_below c.in-Row.fields.stores (operands_at c.args.self.now.regs.ir c.in-Row.fields) _ (omega arith) (omega arith))
 
 pub returns-in-Row-clause-within : goal.returns-in-Row-clause-within
 returns-in-Row-clause-within g c =
-    let k = c.in-Row.ensures.comes.to_row c.in-Row.row c.in-Row.fields refl in
-    rw (c.row_stores.ensures, c.at.ensures)
-    (row_step _ _ _ k.fetched c.in-Row.row k.row_is (operands_at c.args.self.now.regs.ir c.in-Row.fields) k.operands_are k.p_inside k.q_inside k.odd_pairs)
+    rw (c.stores_by.ensures, c.at.ensures)
+    (known_step _ _ _ _ _ c.in-Row.fields.stores (operands_at c.args.self.now.regs.ir c.in-Row.fields) (c.in-Row.ensures.comes.to_row _ c.in-Row.fields refl))
