@@ -72,5 +72,5 @@ branch_over B o core r panel = ends (Ok (on_at r o.p))
 -- the row of each branch: its operands are worked out, whether or not it is taken, and then it does what it does over them
 unfoldable pub branch : BranchOp → List ℕ → Regs → Panel → Instr → Trace Change Regs Stop
 branch op core r panel i = do
-  o ← branch_operands (operands_used op) core r.ir i
+  o ← branch_operands (operands_used i) core r.ir i
   branch_over op o core r panel

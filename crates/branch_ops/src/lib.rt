@@ -1,7 +1,7 @@
 //! Branches: where the next instruction stands.
 //!
 //! A branch goes to P's operand always or by a test, of a digit in core or of an indicator; else the machine goes on with the next
-//! instruction. Its operands are worked out whether or not it is taken. BT and BTM also move a field to P-1 and keep the next
+//! instruction. Its operands, those that the table of instructions names, are worked out whether or not it is taken. BT and BTM also move a field to P-1 and keep the next
 //! instruction's address in IR-2, to which BB goes back.
 #![tactic(auto)]
 
@@ -10,7 +10,7 @@ ghost use Rattle.branch_ops.specs.Branch.{branch_of};
 
 mod rows;
 
-pub use rows::{BranchOperands, BranchUses, branch, branch_known};
+pub use rows::{BranchOperands, branch, branch_known};
 
 /// The two registers of addresses.
 ///

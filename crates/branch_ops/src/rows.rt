@@ -5,13 +5,14 @@ ghost use Rattle.addr_indirect.specs.Fetch.{fetch};
 ghost use Rattle.branch_ops.specs.Branch.{go_if};
 ghost use Rattle.branch_ops.specs.declared.BranchOp.TheVariants.{Bd, Bnf, Bnr, Bng, Bi, Bni};
 ghost use Rattle.branch_ops.specs.Carried.{branch_in, processor, Carries, CarriesKnown, CarriesOut, GoesByDigit, GoesByTest, Transmits};
-ghost use Rattle.branch_ops.specs.Operands.{branch_operands, operands_used, tested_code};
+ghost use Rattle.branch_ops.specs.Operands.{branch_operands, column_by, operands_used, tested_code};
 
 use crate::{BranchOp, Regs, branch_of};
 use addr_indirect::{Instr, Stop, immediate_q, p_operand, q_operand, read_at};
 use digit_core::{Core, GROUP_MARK, RECORD_MARK};
 use field_moves::tf;
 use indicators::Panel;
+use instruction_table::{InstructionRow, OperandUse, instruction_of};
 
 /// Carries a branch out, and gives the address of the next instruction: P's operand, IR-2, or `regs.ir + 12`.
 ///
@@ -53,41 +54,6 @@ pub struct BranchOperands {
     pub q: u32,
     /// The indicator that Q8 Q9 name, 0 where they name none.
     pub code: u8,
-}
-
-/// The operands that a branch uses.
-///
-/// Source: CPU manual, branch instructions.
-#[derive(Clone, Copy, Debug, PartialEq, Eq)]
-pub enum BranchUses {
-    /// P and Q.
-    Both,
-    /// P, and Q in the instruction itself.
-    Immediate,
-    /// P, and the indicator Q8 Q9.
-    Indicator,
-    /// P alone.
-    First,
-    /// None.
-    Neither,
-}
-
-impl BranchOp {
-    /// The operands that the branch uses.
-    ///
-    /// Source: CPU manual, branch instructions.
-    pub fn uses(self) -> BranchUses
-        ensures { result ≡ operands_used self }
-    {
-        match self {
-            BranchOp::Bt | BranchOp::Bd | BranchOp::Bnf => BranchUses::Both,
-            BranchOp::Bnr | BranchOp::Bng => BranchUses::Both,
-            BranchOp::Btm => BranchUses::Immediate,
-            BranchOp::Bi | BranchOp::Bni => BranchUses::Indicator,
-            BranchOp::B => BranchUses::First,
-            BranchOp::Bb => BranchUses::Neither,
-        }
-    }
 }
 
 /// Carries a branch out whose operands are known: what [`branch`] does once they are worked out.
@@ -142,7 +108,7 @@ fn carry_out<const M: u32>(
 {
     core.size_law();
     let ir = regs.ir;
-    match operands(op, core, ir, i) {
+    match operands(core, ir, i) {
         Ok(o) => branch_known(op, o, core, regs, panel),
         Err(stop) => Err(stop),
     }
@@ -155,27 +121,42 @@ fn branch_in(instr: &Instr) -> Option<BranchOp>
     branch_of(instr.opcode()?)
 }
 
+// The operands that an instruction uses, by its row of the table of instructions.
+fn operands_used(instr: &Instr) -> OperandUse
+    ensures { result ≡ operands_used instr.now }
+{
+    match instr.opcode() {
+        Some(code) => column_by(instruction_of(code)),
+        None => OperandUse::Neither,
+    }
+}
+
+// The column of a row; what is no instruction uses no operand.
+fn column_by(row: Option<InstructionRow>) -> OperandUse
+    ensures { result ≡ column_by row }
+{
+    match row {
+        Some(InstructionRow(_, _, uses, _)) => uses,
+        None => OperandUse::Neither,
+    }
+}
+
 // Works out the operands that a branch uses, P's before Q's.
-fn operands<const M: u32>(
-    op: BranchOp,
-    core: &Core<M>,
-    ir: u32,
-    instr: &Instr,
-) -> Result<BranchOperands, Stop>
+fn operands<const M: u32>(core: &Core<M>, ir: u32, instr: &Instr) -> Result<BranchOperands, Stop>
     requires { ir + 12 ≤ size M }
-    ensures is { result ≡ branch_operands (operands_used op) core.now ir instr.now }
+    ensures is { result ≡ branch_operands (operands_used instr.now) core.now ir instr.now }
     ensures p { IfOk result (λ o. o.p < size M) }
     ensures q { IfOk result (λ o. o.q < size M) }
 {
     core.size_law();
     let code = 0;
-    match op.uses() {
-        BranchUses::Both => {
+    match operands_used(instr) {
+        OperandUse::Both => {
             let p = p_operand(core, ir)?;
             let q = q_operand(core, ir)?;
             Ok(BranchOperands { p, q, code })
         }
-        BranchUses::Immediate => {
+        OperandUse::Field => {
             let p = p_operand(core, ir)?;
             Ok(BranchOperands {
                 p,
@@ -183,16 +164,16 @@ fn operands<const M: u32>(
                 code,
             })
         }
-        BranchUses::Indicator => {
+        OperandUse::Indicator => {
             let p = p_operand(core, ir)?;
             let code = tested_code(instr);
             Ok(BranchOperands { p, q: 0, code })
         }
-        BranchUses::First => {
+        OperandUse::First => {
             let p = p_operand(core, ir)?;
             Ok(BranchOperands { p, q: 0, code })
         }
-        BranchUses::Neither => Ok(BranchOperands { p: 0, q: 0, code }),
+        _ => Ok(BranchOperands { p: 0, q: 0, code }),
     }
 }
 
