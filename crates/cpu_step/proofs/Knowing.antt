@@ -222,6 +222,7 @@ module _ (m low high : ℕ) (good : AreGood low high) (core : List ℕ) (ir : �
         let same : p ≡ v = cc in
         rw (← same) (b_comes p is);
     to_row = λ row f e. absurd (cc);
+    to_branch = λ op f code e. absurd (cc);
     to_chained = λ row f e. absurd (cc);
   }
   comes (known.Row row f) is = record {
@@ -230,11 +231,23 @@ module _ (m low high : ℕ) (good : AreGood low high) (core : List ℕ) (ir : �
         let same_row_is : row ≡ other = cc in
         let same_f : f ≡ x = cc in
         rw (← same_row_is, ← same_f) (row_comes row f is.1 (here row f is.0));
+    to_branch = λ op x code e. absurd (cc);
+    to_chained = λ other x e. absurd (cc);
+  }
+  comes (known.Branch op f code) is = record {
+    to_b = λ v e. absurd (cc);
+    to_row = λ other x e. absurd (cc);
+    to_branch = λ other x c e.
+        let same_op : op ≡ other = cc in
+        let same_f : f ≡ x = cc in
+        let same_code : code ≡ c = cc in
+        rw (← same_op, ← same_f, ← same_code) (row_comes (rows.Branch op code) f is.1 (here (rows.Branch op code) f is.0));
     to_chained = λ other x e. absurd (cc);
   }
   comes (known.Chained row f) is = record {
     to_b = λ v e. absurd (cc);
     to_row = λ other x e. absurd (cc);
+    to_branch = λ op x code e. absurd (cc);
     to_chained = λ other x e.
         let same_row_is : row ≡ other = cc in
         let same_f : f ≡ x = cc in
@@ -250,5 +263,6 @@ module _ (m low high : ℕ) (good : AreGood low high) (core : List ℕ) (ir : �
   comes known.Other is = record {
     to_b = λ v e. absurd (cc);
     to_row = λ row f e. absurd (cc);
+    to_branch = λ op f code e. absurd (cc);
     to_chained = λ row f e. absurd (cc);
   }

@@ -127,5 +127,6 @@ nothing core ir low high =
     record {
       to_b = λ p e. cc;
       to_row = λ row o e. cc;
+      to_branch = λ op o code e. cc;
       to_chained = λ row o e. cc;
     }

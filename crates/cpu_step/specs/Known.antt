@@ -7,6 +7,7 @@ use Rattle.addr_indirect.specs.declared.Stop.{Stop}
 use Rattle.addr_indirect.specs.{fetch}
 use Rattle.instruction_table.specs.declared.MayStore.{MayStore}
 use Rattle.instruction_table.specs.declared.MayStore.TheVariants.{Nothing}
+use Rattle.branch_ops.specs.declared.BranchOp.{BranchOp}
 use Rattle.branch_ops.specs.declared.BranchOp.TheVariants.{B}
 use Rattle.cpu_step.specs.declared.rows.Row.{Row}
 use Rattle.cpu_step.specs.declared.rows.Row.TheVariants as row
@@ -81,6 +82,7 @@ pub record IsB (i : Instr) (n p : ℕ) : Type 0 where
 abbrev pub IsKnown : Instr → ℕ → Known → Type 0
 IsKnown i n (known.Goes p) = IsB i n p
 IsKnown i n (known.Row row f) = IsRow i row f × AreSettled n f
+IsKnown i n (known.Branch op f code) = IsRow i (row.Branch op code) f × AreSettled n f
 IsKnown i n (known.Chained row f) = IsRow i row f
 IsKnown i n known.Other = ⊤
 
@@ -129,6 +131,8 @@ pub record ComesTo (core : List ℕ) (ir low high : ℕ) (k : Known) : Type 0 wh
   pub to_b : (p : ℕ) → k ≡ known.Goes p → ComesToB core ir low high p
   pub to_row : (row : Row) (f : Fields) → k ≡ known.Row row f
       → ComesToRow core ir low high row f.stores (operands_at ir f)
+  pub to_branch : (op : BranchOp) (f : Fields) (code : ℕ) → k ≡ known.Branch op f code
+      → ComesToRow core ir low high (row.Branch op code) f.stores (operands_at ir f)
   pub to_chained : (row : Row) (f : Fields) → k ≡ known.Chained row f
       → ComesToChained core ir low high row f
 

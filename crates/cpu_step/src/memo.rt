@@ -17,11 +17,25 @@ use std::alloc::{AllocError, Global};
 #[derive(Clone, Copy)]
 pub(crate) enum Known {
     // B, to P.
-    Goes { p: u32 },
-    // Another row, and its fields.
-    Row { row: Row, fields: Fields },
+    Goes {
+        p: u32,
+    },
+    // Another row that is no branch, and its fields.
+    Row {
+        row: Row,
+        fields: Fields,
+    },
+    // Another branch, its fields, and the indicator that Q8 Q9 name.
+    Branch {
+        op: BranchOp,
+        fields: Fields,
+        code: u8,
+    },
     // A row at whose fields a chain begins. It may be that of B.
-    Chained { row: Row, fields: Fields },
+    Chained {
+        row: Row,
+        fields: Fields,
+    },
     // What has a bad cell, no row, or an operand that won't do.
     Other,
 }
@@ -248,9 +262,9 @@ fn known_row<const M: u32>(row: Row, fields: Fields, i: &Instr, core: &Core<M>, 
     core.size_law();
     match fields.operands(core, ir) {
         Ok(o) => match row {
-            Row::Branch { op, .. } => match op {
+            Row::Branch { op, code } => match op {
                 BranchOp::B => Known::Goes { p: o.p },
-                _ => Known::Row { row, fields },
+                _ => Known::Branch { op, fields, code },
             },
             _ => Known::Row { row, fields },
         },

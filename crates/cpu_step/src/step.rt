@@ -40,6 +40,7 @@ impl<const M: u32> Machine<M> {
                 },
             }),
             Known::Row { row, fields } => self.row_step(row, fields.at(ir), host),
+            Known::Branch { op, fields, code } => self.branch_step(op, fields.at(ir).tested(code)),
             Known::Chained { .. } | Known::Other => self.chained_step(host),
         }
     }

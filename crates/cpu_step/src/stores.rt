@@ -52,6 +52,7 @@ impl<const M: u32> Machine<M> {
         match self.memo.look(&self.core, ir) {
             Known::Goes { .. } => Stores::Nothing,
             Known::Row { fields, .. } => stores_by(fields.stores, fields.at(ir)),
+            Known::Branch { fields, .. } => stores_by(fields.stores, fields.at(ir)),
             Known::Chained { .. } | Known::Other => decoded_stores(&self.core, ir),
         }
     }

@@ -37,3 +37,26 @@ pub returns-in-Row-clause-within : goal.returns-in-Row-clause-within
 returns-in-Row-clause-within g c =
     rw (c.stores_by.ensures, c.at.ensures)
     (known_step _ _ _ _ _ c.in-Row.fields.stores (operands_at c.args.self.now.regs.ir c.in-Row.fields) (c.in-Row.ensures.comes.to_row _ c.in-Row.fields refl))
+
+pub at-in-Branch-requires : goal.at-in-Branch-requires
+at-in-Branch-requires g c =
+    let k = c.in-Branch.ensures.comes.to_branch _ c.in-Branch.fields _ refl in
+    in_size g.row.M c.args.self.now.core c.args.self.now.regs.ir c.size_law.ensures.is_size c.size_law.ensures.length k.inside
+
+pub returns-in-Branch-clause-is : goal.returns-in-Branch-clause-is
+returns-in-Branch-clause-is g c =
+    rw (c.stores_by-in-Branch.ensures, c.at-in-Branch.ensures)
+    (row_says _ _ _ _ _ c.in-Branch.fields.stores (operands_at c.args.self.now.regs.ir c.in-Branch.fields) (c.in-Branch.ensures.comes.to_branch _ c.in-Branch.fields _ refl))
+
+pub returns-in-Branch-clause-below : goal.returns-in-Branch-clause-below
+returns-in-Branch-clause-below g c =
+    let k = c.in-Branch.ensures.comes.to_branch _ c.in-Branch.fields _ refl in
+    let p = k.p_inside in
+    let q = k.q_inside in
+    let l = c.size_law.ensures.length in
+    rw (c.stores_by-in-Branch.ensures, c.at-in-Branch.ensures) (stores_below c.in-Branch.fields.stores (operands_at c.args.self.now.regs.ir c.in-Branch.fields) _ (omega arith) (omega arith))
+
+pub returns-in-Branch-clause-within : goal.returns-in-Branch-clause-within
+returns-in-Branch-clause-within g c =
+    rw (c.stores_by-in-Branch.ensures, c.at-in-Branch.ensures)
+    (known_step _ _ _ _ _ c.in-Branch.fields.stores (operands_at c.args.self.now.regs.ir c.in-Branch.fields) (c.in-Branch.ensures.comes.to_branch _ c.in-Branch.fields _ refl))
