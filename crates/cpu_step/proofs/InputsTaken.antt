@@ -8,7 +8,7 @@ use Rattle.traces.specs.Break.{Break, Stops, Empty, NoKeys, Jam}
 use Rattle.card_code.specs.Entries.{Entry, behind}
 use Rattle.cpu_step.specs.State.{State}
 use Rattle.cpu_step.specs.Act.{Next, Goes, Halts}
-use Rattle.cpu_step.specs.Effects.{Effect, Cell, Light, Arm, Punched, Typed, Sector, CardTaken, LineTaken, after_one, after}
+use Rattle.cpu_step.specs.Effects.{Effect, Cell, Light, Arm, Written, Sector, CardTaken, LineTaken, after_one, after}
 use Rattle.cpu_step.specs.Step.{instruction, check_stop, state_after_check, settle, step, partial_step}
 use Rattle.cpu_step.specs.Load.{state_for_load, load_trace, load_key, load_cut}
 use Rattle.cpu_step.specs.Outside.{all_outside, load_events}
@@ -45,8 +45,7 @@ all_taken [] s = record { cards = refl; lines = refl }
 all_taken (Cell d ∷ es) s = let t = all_taken es (after_one s (Cell d)) in record { cards = t.cards; lines = t.lines }
 all_taken (Light l ∷ es) s = let t = all_taken es (after_one s (Light l)) in record { cards = t.cards; lines = t.lines }
 all_taken (Arm drive cylinder ∷ es) s = let t = all_taken es (after_one s (Arm drive cylinder)) in record { cards = t.cards; lines = t.lines }
-all_taken (Punched b ∷ es) s = let t = all_taken es (after_one s (Punched b)) in record { cards = t.cards; lines = t.lines }
-all_taken (Typed b ∷ es) s = let t = all_taken es (after_one s (Typed b)) in record { cards = t.cards; lines = t.lines }
+all_taken (Written u b ∷ es) s = let t = all_taken es (after_one s (Written u b)) in record { cards = t.cards; lines = t.lines }
 all_taken (Sector a bytes ∷ es) s = let t = all_taken es (after_one s (Sector a bytes)) in record { cards = t.cards; lines = t.lines }
 all_taken (CardTaken ∷ es) s = let t = all_taken es (after_one s CardTaken) in record { cards = t.cards ∙ drop_behind (cards_in (all_outside es)) s.hopper; lines = t.lines }
 all_taken (LineTaken ∷ es) s = let t = all_taken es (after_one s LineTaken) in record { cards = t.cards; lines = t.lines ∙ drop_behind (lines_in (all_outside es)) s.keys }

@@ -1,5 +1,6 @@
 pub mod Shown
 pub mod Parts
+pub mod Texts
 pub mod Readers
 pub mod Written
 pub mod Carded
@@ -8,6 +9,7 @@ pub mod Disked
 pub mod Loaded
 pub mod Exact
 pub mod Outputs
+pub mod OwnUnits
 pub mod Outside
 pub mod InputsTaken
 pub mod Fielded

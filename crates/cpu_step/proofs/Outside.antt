@@ -1,65 +1,60 @@
 -- What a step, and a part of one, does outside.
-use Rattle.std.proofs.Common.{◌≡◌, ℕ, zero, suc, Bool, true, false, List, [], ◌∷◌, take, refl, sym, ◌∙◌, ap, subst, if◌then◌else◌, ◌||◌}
+use Rattle.std.proofs.Common.{◌≡◌, ℕ, zero, suc, Bool, true, false, List, [], ◌∷◌, take, refl, sym, ◌∙◌, ap, subst, if◌then◌else◌, All}
 use Rattle.std.proofs.Math.Path.{fun_ext}
+use Rattle.std.proofs.lemmas.Bool.{true≢false}
+use Rattle.std.proofs.lemmas.List.Elements.{All-head, All-tail, All-take}
 use Rattle.std.specs.Prelude.{Option, Some, None, Result, Ok, Err}
-use Rattle.outside_io.specs.declared.host.Unit as unit
-use Rattle.outside_io.specs.declared.host.Unit.TheVariants as units
-use Rattle.outside_io.specs.World.{World, same_unit, at}
+use Rattle.outside_io.specs.World.{World, same_unit}
 use Rattle.outside_io.specs.Frame.{Keeps}
 use Rattle.outside_io.specs.Events.{Event, after_events, IsFirstPart, SameOutside, DidAll}
-use Rattle.outside_io.proofs.InMemory.{same_unit-eq}
 use Rattle.outside_io.proofs.EventLemmas.{same_on, same_sym, same_events, after_append, first_none, first_on}
 use Rattle.traces.specs.Break.{Break, Stops, Empty, NoKeys, Jam}
 use Rattle.addr_indirect.specs.declared.Stop.{Stop}
 use Rattle.cpu_step.specs.declared.machine.Machine.{Machine}
-use Rattle.cpu_step.specs.State.{State}
+use Rattle.cpu_step.specs.State.{UnitTexts, State}
 use Rattle.cpu_step.specs.Act.{Next, Goes, Halts}
-use Rattle.cpu_step.specs.Effects.{Effect, Cell, Light, Arm, Punched, Typed, Sector, CardTaken, LineTaken, with_bytes, after_one, after}
+use Rattle.cpu_step.specs.Effects.{Effect, Cell, Light, Arm, Written, Sector, CardTaken, LineTaken, with_bytes, after_one, after}
 use Rattle.cpu_step.specs.Step.{instruction, check_stop, state_after_check, settle, step, partial_step}
 use Rattle.cpu_step.specs.Machine.{state_of, is_read, is_written}
 use Rattle.cpu_step.specs.Load.{state_for_load, load_trace, load_key, load_cut}
 use Rattle.cpu_step.specs.Outside.{outside, all_outside, load_events}
 use Rattle.cpu_step.proofs.Exact.{state_is, state_pack}
 use Rattle.cpu_step.proofs.Outputs.{SameWritten}
+use Rattle.cpu_step.proofs.Texts.{same_written}
+use Rattle.cpu_step.proofs.OwnUnits.{IsOwn, instruction_own, load_own}
 
 -- a world with the texts and the sectors of a state
 abbrev pub seen_by : World → State → World
 seen_by w s = record w {
-  written = λ v. if same_unit units.Punched v then s.punched else if same_unit units.Typed v then s.typed else w.written v;
+  written = λ v. if is_written v then s.written v else w.written v;
   sectors = Some s.sectors;
 }
 
-punched_by : (b c d : Bool) (byte : ℕ) (p t o : Option (List ℕ))
-    → (if b then with_bytes (byte ∷ []) p else if c then t else o) ≡ (if b then with_bytes (byte ∷ []) (if b then p else if c then t else o) else (if b then p else if c then t else o))
-punched_by true c d byte p t o = refl
-punched_by false c d byte p t o = refl
-
-typed_at : (byte : ℕ) (p t : Option (List ℕ)) (written : unit.Unit → Option (List ℕ)) (v : unit.Unit)
-    → (if same_unit units.Punched v then p else if same_unit units.Typed v then with_bytes (byte ∷ []) t else written v)
-    ≡ at units.Typed (with_bytes (byte ∷ [])) (λ x. if same_unit units.Punched x then p else if same_unit units.Typed x then t else written x) v
-typed_at byte p t written units.Typed = refl
-typed_at byte p t written v = refl
+seen_put : (own same : Bool) (byte : ℕ) (o p : Option (List ℕ)) → (same ≡ true → own ≡ true)
+    → (if own then (if same then with_bytes (byte ∷ []) o else o) else p) ≡ (if same then with_bytes (byte ∷ []) (if own then o else p) else (if own then o else p))
+seen_put true same byte o p is = refl
+seen_put false true byte o p is = absurd (true≢false (sym (is refl)))
+seen_put false false byte o p is = refl
 
 pub same_seen : (w : World) (s t : State) → SameWritten s t → seen_by w s ≡ seen_by w t
 same_seen w s t same = λ i. record w {
-  written = λ v. if same_unit units.Punched v then same.punched i else if same_unit units.Typed v then same.typed i else w.written v;
+  written = λ v. if is_written v then same.written i v else w.written v;
   sectors = Some (same.sectors i);
 }
 
 module _ (w : World) where
-  one_seen : (s : State) (e : Effect) → seen_by w (after_one s e) ≡ after_events (seen_by w s) (outside e)
-  one_seen s (Cell d) = refl
-  one_seen s (Light l) = refl
-  one_seen s (Arm drive cylinder) = refl
-  one_seen s (Punched b) = ap (λ (texts : unit.Unit → Option (List ℕ)). record (seen_by w s) { written = texts }) (fun_ext (λ v. punched_by (same_unit units.Punched v) (same_unit units.Typed v) true b s.punched s.typed (w.written v)))
-  one_seen s (Typed b) = ap (λ (texts : unit.Unit → Option (List ℕ)). record (seen_by w s) { written = texts }) (fun_ext (typed_at b s.punched s.typed w.written))
-  one_seen s (Sector a bytes) = refl
-  one_seen s CardTaken = refl
-  one_seen s LineTaken = refl
+  one_seen : (s : State) (e : Effect) → IsOwn e → seen_by w (after_one s e) ≡ after_events (seen_by w s) (outside e)
+  one_seen s (Cell d) own = refl
+  one_seen s (Light l) own = refl
+  one_seen s (Arm drive cylinder) own = refl
+  one_seen s (Written u b) own = ap (λ (texts : UnitTexts). record (seen_by w s) { written = texts }) (fun_ext (λ v. seen_put (is_written v) (same_unit u v) b (s.written v) (w.written v) (same_written u true own v)))
+  one_seen s (Sector a bytes) own = refl
+  one_seen s CardTaken own = refl
+  one_seen s LineTaken own = refl
 
-  pub all_seen : (es : List Effect) (s : State) → seen_by w (after s es) ≡ after_events (seen_by w s) (all_outside es)
-  all_seen [] s = refl
-  all_seen (e ∷ es) s = all_seen es (after_one s e) ∙ ap (λ (x : World). after_events x (all_outside es)) (one_seen s e) ∙ sym (after_append (outside e) (all_outside es) (seen_by w s))
+  all_seen : (es : List Effect) (s : State) → All IsOwn es → seen_by w (after s es) ≡ after_events (seen_by w s) (all_outside es)
+  all_seen [] s own = refl
+  all_seen (e ∷ es) s own = all_seen es (after_one s e) (All-tail IsOwn e es own) ∙ ap (λ (x : World). after_events x (all_outside es)) (one_seen s e (All-head IsOwn e es own)) ∙ sym (after_append (outside e) (all_outside es) (seen_by w s))
 
   checked_seen : (o : Option Stop) (s : State) (n : Next) → seen_by w (state_after_check o s n) ≡ seen_by w s
   checked_seen None s (Goes regs) = refl
@@ -76,20 +71,20 @@ module _ (w : World) where
   -- a step, and a part of one
   pub step_seen : (s : State) → seen_by w (step s) ≡ after_events (seen_by w s) (all_outside (instruction s).effects)
   unfolding step
-  step_seen s = settle_seen (after s (instruction s).effects) (instruction s).answer ∙ all_seen (instruction s).effects s
+  step_seen s = settle_seen (after s (instruction s).effects) (instruction s).answer ∙ all_seen (instruction s).effects s (instruction_own s)
 
   pub cut_seen : (done : ℕ) (s : State) → seen_by w (partial_step done s) ≡ after_events (seen_by w s) (all_outside (take done (instruction s).effects))
   unfolding partial_step
-  cut_seen done s = all_seen (take done (instruction s).effects) s
+  cut_seen done s = all_seen (take done (instruction s).effects) s (All-take IsOwn done (instruction s).effects (instruction_own s))
 
   -- the Load key, and a part of it
   pub load_seen : (s : State) → seen_by w (load_key s) ≡ after_events (seen_by w s) (load_events s)
   unfolding load_key
-  load_seen s = all_seen (load_trace (state_for_load s)).effects (state_for_load s)
+  load_seen s = all_seen (load_trace (state_for_load s)).effects (state_for_load s) (load_own s)
 
   pub load_cut_seen : (done : ℕ) (s : State) → seen_by w (load_cut done s) ≡ after_events (seen_by w s) (all_outside (take done (load_trace (state_for_load s)).effects))
   unfolding load_cut
-  load_cut_seen done s = all_seen (take done (load_trace (state_for_load s)).effects) (state_for_load s)
+  load_cut_seen done s = all_seen (take done (load_trace (state_for_load s)).effects) (state_for_load s) (All-take IsOwn done (load_trace (state_for_load s)).effects (load_own s))
 
   pub first_effects : (done : ℕ) (es : List Effect) → IsFirstPart (all_outside (take done es)) (all_outside es)
   first_effects zero es = first_none (all_outside es)
@@ -98,11 +93,9 @@ module _ (w : World) where
 
 -- WORLDS AND STATES
 
-shown_at : (w : World) (s : State) → s.punched ≡ w.written units.Punched → s.typed ≡ w.written units.Typed → (v : unit.Unit) (b c : Bool) → same_unit units.Punched v ≡ b → same_unit units.Typed v ≡ c
-    → (o : Option (List ℕ)) → ((b || c) ≡ false → w.written v ≡ o) → w.written v ≡ (if b then s.punched else if c then s.typed else o)
-shown_at w s cards words v true c is_cards is_words o other = ap w.written (sym (same_unit-eq units.Punched v is_cards)) ∙ sym cards
-shown_at w s cards words v false true is_cards is_words o other = ap w.written (sym (same_unit-eq units.Typed v is_words)) ∙ sym words
-shown_at w s cards words v false false is_cards is_words o other = other refl
+shown_at : (own : Bool) (now old : Option (List ℕ)) → (own ≡ false → now ≡ old) → now ≡ (if own then (if own then now else None) else old)
+shown_at true now old other = refl
+shown_at false now old other = other refl
 
 -- a world is the one that a state shows over an earlier world, of which all but the machine's texts and the pack stayed
 pub shown_over : (m : ℕ) (machine : Machine m) (old now : World) (s : State) → Keeps is_read is_written true old now → state_of m machine now ≡ Some s → SameOutside now (seen_by old s)
@@ -112,7 +105,7 @@ shown_over m machine old now s keeps here =
       file = keeps.file;
       in_use = keeps.in_use;
       names = keeps.names;
-      written = fun_ext (λ v. shown_at now s (ap (λ (t : State). t.punched) shown) (ap (λ (t : State). t.typed) shown) v (same_unit units.Punched v) (same_unit units.Typed v) refl refl (old.written v) (keeps.written v));
+      written = fun_ext (λ v. shown_at (is_written v) (now.written v) (old.written v) (keeps.written v)) ∙ (λ i v. if is_written v then (sym shown i).written v else old.written v);
       sectors = state_pack m machine now s here;
     }
 

@@ -7,6 +7,9 @@ use Rattle.digit_core.specs.Cell.{cell, with_flag}
 use Rattle.addr_indirect.specs.declared.Stop.{Stop}
 use Rattle.addr_indirect.specs.declared.Stop.TheVariants.{Address}
 use Rattle.addr_indirect.specs.Reading.{read_at}
+use Rattle.outside_io.specs.declared.host.Unit as unit
+use Rattle.outside_io.specs.declared.host.Unit.TheVariants as units
+use Rattle.outside_io.specs.World.{at}
 use Rattle.traces.specs.Trace.{Trace, ends, lift, and_then, with_answer, ◌>>=◌}
 use Rattle.traces.specs.Change.{Change, Stores, core_after_changes}
 use Rattle.traces.specs.Stored.{Stored, stores, core_after}
@@ -45,7 +48,7 @@ use Rattle.cpu_step.specs.declared.rows.Operands.{Operands}
 use Rattle.cpu_step.specs.declared.stores.Stores as may
 use Rattle.cpu_step.specs.declared.stores.Stores.TheVariants as kinds
 use Rattle.cpu_step.specs.State.{State}
-use Rattle.cpu_step.specs.Effects.{Cell, Punched, Typed, of_punch, of_typing, with_bytes, after}
+use Rattle.cpu_step.specs.Effects.{Cell, Written, of_output, with_bytes, after}
 use Rattle.card_unit.specs.Punch.{punch_numeric, punch_alphameric, punch_dump}
 use Rattle.typewriter.specs.Typing.{control, write_numeric, write_alphameric, write_dump}
 use Rattle.cpu_step.specs.Act.{show_result, sum_action, comparison_action, move_action, typing_action, pair_typing_action, punch_action, pair_punch_action, on_console, on_cards, move_of, operands_of_branch, action}
@@ -99,23 +102,14 @@ comparison_keeps : (s : State) (r : Result Shown Stop) (a : ℕ) → get_or (aft
 comparison_keeps s r a = ap (λ (new : List ℕ). get_or new a 0) (core_shown r s)
 
 -- what is typed or punched is no part of core
-core_typed : (bs : List ℕ) (s : State) → (after s (map Typed bs)).core ≡ s.core
-core_typed [] s = refl
-core_typed (b ∷ bs) s = core_typed bs (record s { typed = with_bytes (b ∷ []) s.typed })
+core_written : (u : unit.Unit) (bs : List ℕ) (s : State) → (after s (map (Written u) bs)).core ≡ s.core
+core_written u [] s = refl
+core_written u (b ∷ bs) s = core_written u bs (record s { written = at u (with_bytes (b ∷ [])) s.written })
 
-core_punched : (bs : List ℕ) (s : State) → (after s (map Punched bs)).core ≡ s.core
-core_punched [] s = refl
-core_punched (b ∷ bs) s = core_punched bs (record s { punched = with_bytes (b ∷ []) s.punched })
-
-core_pairs_typed : (os : List Output) (s : State) → (after s (map of_typing os)).core ≡ s.core
-core_pairs_typed [] s = refl
-core_pairs_typed (Writes b ∷ os) s = core_pairs_typed os (record s { typed = with_bytes (b ∷ []) s.typed })
-core_pairs_typed (Warns l ∷ os) s = core_pairs_typed os (record s { panel = set l.code l.to s.panel })
-
-core_pairs_punched : (os : List Output) (s : State) → (after s (map of_punch os)).core ≡ s.core
-core_pairs_punched [] s = refl
-core_pairs_punched (Writes b ∷ os) s = core_pairs_punched os (record s { punched = with_bytes (b ∷ []) s.punched })
-core_pairs_punched (Warns l ∷ os) s = core_pairs_punched os (record s { panel = set l.code l.to s.panel })
+core_pairs : (u : unit.Unit) (os : List Output) (s : State) → (after s (map (of_output u) os)).core ≡ s.core
+core_pairs u [] s = refl
+core_pairs u (Writes b ∷ os) s = core_pairs u os (record s { written = at u (with_bytes (b ∷ [])) s.written })
+core_pairs u (Warns l ∷ os) s = core_pairs u os (record s { panel = set l.code l.to s.panel })
 
 -- what leaves core keeps all its cells
 pub keeps_all : (core new : List ℕ) → new ≡ core → KeepsOutside kinds.Nothing core new
@@ -123,16 +117,16 @@ keeps_all core new same a out = ap (λ (x : List ℕ). get_or x a 0) same
 
 -- what types or punches
 typing_keeps : (s : State) (t : Trace ℕ ⊤ Stop) → KeepsOutside kinds.Nothing s.core (after s (typing_action s t).effects).core
-typing_keeps s t = keeps_all s.core (after s (map Typed t.effects)).core (core_typed t.effects s)
+typing_keeps s t = keeps_all s.core (after s (map (Written units.Typed) t.effects)).core (core_written units.Typed t.effects s)
 
 pair_typing_keeps : (s : State) (t : Trace Output ⊤ Stop) → KeepsOutside kinds.Nothing s.core (after s (pair_typing_action s t).effects).core
-pair_typing_keeps s t = keeps_all s.core (after s (map of_typing t.effects)).core (core_pairs_typed t.effects s)
+pair_typing_keeps s t = keeps_all s.core (after s (map (of_output units.Typed) t.effects)).core (core_pairs units.Typed t.effects s)
 
 punch_keeps : (s : State) (t : Trace ℕ ⊤ Stop) → KeepsOutside kinds.Nothing s.core (after s (punch_action s t).effects).core
-punch_keeps s t = keeps_all s.core (after s (map Punched t.effects)).core (core_punched t.effects s)
+punch_keeps s t = keeps_all s.core (after s (map (Written units.Punched) t.effects)).core (core_written units.Punched t.effects s)
 
 pair_punch_keeps : (s : State) (t : Trace Output ⊤ Stop) → KeepsOutside kinds.Nothing s.core (after s (pair_punch_action s t).effects).core
-pair_punch_keeps s t = keeps_all s.core (after s (map of_punch t.effects)).core (core_pairs_punched t.effects s)
+pair_punch_keeps s t = keeps_all s.core (after s (map (of_output units.Punched) t.effects)).core (core_pairs units.Punched t.effects s)
 
 -- THE ACTION OF A ROW STORES WITHIN THIS COLUMN.
 abbrev pub RowKeeps : MayStore → Row → Type 0

@@ -3,7 +3,7 @@ use Rattle.std.proofs.Common.{◌≡◌, ℕ, Bool, true, false, ◌==◌, ◌%�
 use Rattle.std.specs.Prelude.{◌-◌, slice_set, Option, Some, None, Result, Ok, Err, if◌then◌else◌}
 use Rattle.digit_core.specs.Cell.{cell, store}
 use Rattle.indicators.specs.Panel.{set}
-use Rattle.outside_io.specs.World.{with_sector}
+use Rattle.outside_io.specs.World.{at, with_sector}
 use Rattle.addr_indirect.specs.declared.Stop.{Stop}
 use Rattle.addr_indirect.specs.declared.Instr.{Instr}
 use Rattle.card_code.specs.Entries.{behind}
@@ -17,7 +17,7 @@ use Rattle.cpu_step.specs.declared.rows.Operands.{Operands}
 use Rattle.cpu_step.specs.declared.stores.Stores as may
 use Rattle.cpu_step.specs.declared.stores.Stores.TheVariants as kinds
 use Rattle.cpu_step.specs.State.{State}
-use Rattle.cpu_step.specs.Effects.{Effect, Cell, Light, Arm, Punched, Typed, Sector, CardTaken, LineTaken, with_bytes, after}
+use Rattle.cpu_step.specs.Effects.{Effect, Cell, Light, Arm, Written, Sector, CardTaken, LineTaken, with_bytes, after}
 use Rattle.cpu_step.specs.Act.{Next, Goes, Halts, act, act_with, action, operands}
 use Rattle.cpu_step.specs.Step.{check_stop, state_after_check, settle, instruction, step}
 use Rattle.cpu_step.specs.Known.{found_with, uses_at, ComesToRow}
@@ -34,8 +34,7 @@ after_long (Cell d ∷ es) s = after_long es (record s { core = store s.core d.a
 after_long (Light l ∷ es) s = after_long es (record s { panel = set l.code l.to s.panel })
 after_long (Arm d c ∷ es) s = after_long es (record s { arms = slice_set s.arms (d - 1) c })
 after_long (Sector a bytes ∷ es) s = after_long es (record s { sectors = with_sector a bytes s.sectors })
-after_long (Typed b ∷ es) s = after_long es (record s { typed = with_bytes (b ∷ []) s.typed })
-after_long (Punched b ∷ es) s = after_long es (record s { punched = with_bytes (b ∷ []) s.punched })
+after_long (Written u b ∷ es) s = after_long es (record s { written = at u (with_bytes (b ∷ [])) s.written })
 after_long (LineTaken ∷ es) s = after_long es (record s { keys = behind s.keys })
 after_long (CardTaken ∷ es) s = after_long es (record s { hopper = behind s.hopper })
 

@@ -1,15 +1,13 @@
 -- What the effects of a step do outside the machine.
 use Rattle.std.specs.Prelude.{List, [], ◌∷◌, ◌++◌}
-use Rattle.outside_io.specs.declared.host.Unit.TheVariants as units
 use Rattle.outside_io.specs.Events.{Event, WriteByte, WriteSector, TakeCard, TakeLine}
-use Rattle.cpu_step.specs.Effects.{Effect, Punched, Typed, Sector, CardTaken, LineTaken}
+use Rattle.cpu_step.specs.Effects.{Effect, Written, Sector, CardTaken, LineTaken}
 use Rattle.cpu_step.specs.State.{State}
 use Rattle.cpu_step.specs.Load.{state_for_load, load_trace}
 
 -- what an effect does there
 abbrev pub outside : Effect → List Event
-outside (Punched b) = WriteByte units.Punched b ∷ []
-outside (Typed b) = WriteByte units.Typed b ∷ []
+outside (Written u b) = WriteByte u b ∷ []
 outside (Sector a bytes) = WriteSector a bytes ∷ []
 outside CardTaken = TakeCard ∷ []
 outside LineTaken = TakeLine ∷ []
