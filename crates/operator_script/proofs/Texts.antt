@@ -1,12 +1,13 @@
--- What a run punches and types only grows, and whether these texts are told makes no difference to it.
+-- What a run writes only grows, and whether these texts are told makes no difference to it.
 use Rattle.std.proofs.Common.{◌≡◌, ℕ, zero, suc, ◌+◌, ◌≤◌, Bool, true, false, List, [], ◌∷◌, refl, sym, ◌∙◌, ap, subst, arith, if◌then◌else◌, ◌==◌}
 use Rattle.std.specs.Prelude.{Some}
 use Rattle.cpu_step.specs.declared.machine.Mode.{Mode}
 use Rattle.cpu_step.specs.declared.machine.Mode.TheVariants as mode
+use Rattle.outside_io.specs.declared.host.Unit as unit
 use Rattle.cpu_step.specs.State.{State}
 use Rattle.cpu_step.specs.Step.{step}
 use Rattle.cpu_step.specs.Load.{load_key, load_cut}
-use Rattle.cpu_step.proofs.Outputs.{telling, step-telling, load-telling, grows_same, Grown, grown_same, grown_on, grown_to, step_grows, cut_grows, load-written, load_cut-written}
+use Rattle.cpu_step.proofs.Outputs.{telling, step-telling, load-telling, Grown, grown_same, grown_on, grown_to, step_grows, cut_grows, load-written, load_cut-written}
 use Rattle.operator_script.specs.declared.script.Action.{Action}
 use Rattle.operator_script.specs.declared.script.Action.TheVariants as action
 use Rattle.operator_script.specs.declared.script.ScriptLine.{ScriptLine}
@@ -17,25 +18,25 @@ use Rattle.operator_script.proofs.LastPlace.{on, last_on}
 
 -- Whether the texts are told.
 
--- a place whose punched and typed texts are told, or aren't
-abbrev pub place_telling : Bool → Bool → RunPlace → RunPlace
-place_telling cards typed p = record { state = telling cards typed p.state; steps = p.steps; script = p.script }
+-- a place that tells the texts of these units alone
+abbrev pub place_telling : (unit.Unit → Bool) → RunPlace → RunPlace
+place_telling told p = record { state = telling told p.state; steps = p.steps; script = p.script }
 
-module _ (cards typed : Bool) where
+module _ (told : unit.Unit → Bool) where
   abbrev pub kept : RunPlace → RunPlace
-  kept p = place_telling cards typed p
+  kept p = place_telling told p
 
   abbrev pub turning_kept : Turning → Turning
   turning_kept (Acted q) = Acted (kept q)
   turning_kept (Stepped q) = Stepped (kept q)
   turning_kept (Ended how) = Ended how
 
-  acted-telling : (a : Action) (s : State) → state_after_action a (telling cards typed s) ≡ telling cards typed (state_after_action a s)
-  acted-telling = of_action (λ f events. (s : State) → f (telling cards typed s) ≡ telling cards typed (f s)) (load-telling cards typed) (λ change s. refl)
+  acted-telling : (a : Action) (s : State) → state_after_action a (telling told s) ≡ telling told (state_after_action a s)
+  acted-telling = of_action (λ f events. (s : State) → f (telling told s) ≡ telling told (f s)) (load-telling told) (λ change s. refl)
 
   limit-telling : (p : RunPlace) (b : Bool) → (if b then Ended (ending_of p.state) else Stepped (place_after_step (kept p))) ≡ turning_kept (if b then Ended (ending_of p.state) else Stepped (place_after_step p))
   limit-telling p true = refl
-  limit-telling p false = ap (λ (s : State). Stepped (record { state = s; steps = p.steps + 1; script = p.script })) (step-telling cards typed p.state)
+  limit-telling p false = ap (λ (s : State). Stepped (record { state = s; steps = p.steps + 1; script = p.script })) (step-telling told p.state)
 
   mode-telling : (limit : ℕ) (p : RunPlace) (m : Mode) → by_mode limit (kept p) m ≡ turning_kept (by_mode limit p m)
   mode-telling limit p mode.Running = limit-telling p (p.steps == limit)
@@ -74,14 +75,14 @@ module _ (cards typed : Bool) where
   last-telling limit zero p = refl
   last-telling limit (suc n) p = ap (last_on limit n (kept p)) (turn-telling limit p) ∙ on-telling limit n p (turn limit p) (last-telling limit n)
 
--- What is punched and typed only grows.
+-- What is written only grows.
 
 acted_grows : (a : Action) (s : State) → Grown s (state_after_action a s)
 acted_grows =
     of_action (λ f events. (s : State) → Grown s (f s)) (λ s. grown_to s s (load_key s) (grown_same s) (load-written s))
-    (λ change s. record { punched = grows_same s.punched; typed = grows_same s.typed })
+    (λ change s. grown_same s)
 
--- where a turn leads, and what is typed on the way there
+-- where a turn leads, and what is written on the way there
 abbrev pub TurnGrows : RunPlace → Turning → Type 0
 TurnGrows p (Acted q) = Grown p.state q.state
 TurnGrows p (Stepped q) = Grown p.state q.state
@@ -121,7 +122,7 @@ on_grows limit n p (Acted q) grows rest = grown_on p.state q.state (last_within 
 on_grows limit n p (Stepped q) grows rest = grown_on p.state q.state (last_within limit n q).state grows (rest q)
 on_grows limit n p (Ended how) grows rest = grown_same p.state
 
--- a run types what follows
+-- a run writes what follows
 pub last_grows : (limit n : ℕ) (p : RunPlace) → Grown p.state (last_within limit n p).state
 unfolding last_within
 last_grows limit zero p = grown_same p.state
@@ -142,9 +143,9 @@ unfolding state_after_action
 load_cut_grows done s =
     let cut = load_cut-written done s in
     let whole = load-written s in
-    grown_to (load_cut done s) (load_cut done s) (load_key s) (grown_same (load_cut done s)) (record { punched = whole.punched ∙ sym cut.punched; typed = whole.typed ∙ sym cut.typed; sectors = whole.sectors ∙ sym cut.sectors })
+    grown_to (load_cut done s) (load_cut done s) (load_key s) (grown_same (load_cut done s)) (record { written = whole.written ∙ sym cut.written; sectors = whole.sectors ∙ sym cut.sectors })
 
--- it has typed a first part of what the run types from there
+-- it has written a first part of what the run writes from there
 cut_turn_grows : (limit n : ℕ) (p q : RunPlace) → IsCutTurn limit p q → Grown q.state (last_within limit (suc n) p).state
 cut_turn_grows limit n p q (in_step done is here) = cut_by_step limit n p (place_after_step p) q.state is (subst (λ (x : RunPlace). Grown x.state (step p.state)) (sym here) (cut_grows done p.state))
 cut_turn_grows limit n p q (in_load done rest due is here) = cut_by limit n p (place_after_action p action.Load rest) q.state is (subst (λ (x : RunPlace). Grown x.state (state_after_action action.Load p.state)) (sym here) (load_cut_grows done p.state))
@@ -184,7 +185,7 @@ cut_at : (limit : ℕ) (p q : RunPlace) (left : ℕ) → 1 ≤ left → IsCutTur
 cut_at limit p q zero some is_cut = absurd (omega arith)
 cut_at limit p q (suc n) some is_cut = cut_turn_grows limit n p q is_cut
 
--- a run that was cut short has typed a first part of what it types
+-- a run that was cut short has written a first part of what it writes
 pub way_grows : (limit : ℕ) (first q : RunPlace) → first.steps ≤ limit → IsOnTheWay limit first q → Grown q.state (last_place limit first).state
 way_grows limit first q within way =
     let f = further limit (most_turns limit first) way.turns first way.place within (omega arith) way.reached in
