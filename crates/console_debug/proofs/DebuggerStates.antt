@@ -1,6 +1,6 @@
 -- Parts of a session one after another, and what each of them stands on.
 use Rattle.std.proofs.Common.{◌≡◌, ◌∙◌, ℕ, suc, ◌+◌, ◌-◌, ◌≤◌, max, Bool, true, false, ◌||◌, List, [], ◌∷◌, ◌++◌, refl, sym, ap, subst, append_assoc, arith}
-use Rattle.std.specs.Prelude.{Option, Some, option_map, is_some}
+use Rattle.std.specs.Prelude.{Some, option_map, is_some}
 use Rattle.outside_io.specs.declared.host.Unit as unit
 use Rattle.outside_io.specs.declared.host.Unit.TheVariants as units
 use Rattle.outside_io.specs.declared.whole.Sent.{Sent}
@@ -11,7 +11,6 @@ use Rattle.outside_io.specs.Frame.{Keeps}
 use Rattle.outside_io.specs.Events.{text_events}
 use Rattle.outside_io.proofs.Frames.{keeps_all, keeps_on, keeps_added}
 use Rattle.outside_io.proofs.EventLemmas.{did_on, did_text, first_text}
-use Rattle.card_code.specs.Entries.{Entry}
 use Rattle.card_unit.specs.Hopper.{hopper_left}
 use Rattle.card_unit.proofs.ReadSame.{read_same}
 use Rattle.typewriter.specs.Keys.{keys_left}
@@ -21,6 +20,7 @@ use Rattle.cpu_step.specs.State.{State}
 use Rattle.cpu_step.specs.Machine.{Frames, is_read, is_written, state_with, over_all}
 use Rattle.cpu_step.proofs.Readers.{hopper_same}
 use Rattle.cpu_step.proofs.Exact.{state_is}
+use Rattle.cpu_step.proofs.Texts.{texts_other}
 use Rattle.cpu_step.proofs.InputsTaken.{HasTaken, taken_on}
 use Rattle.operator_script.specs.Turn.{RunPlace, IsCutTurn}
 use Rattle.operator_script.specs.Run.{RunState, place_with, place_of}
@@ -99,7 +99,7 @@ attends_said m machine before after text goes = record {
 
 place_said : (m : ℕ) (x : RunState m) (text : List ℕ) (w : World) → place_of m x (world_after_put units.Report text w) ≡ place_of m x w
 place_said m x text w =
-    ap (λ (cards : Option (List Entry)). option_map (place_with m x) (over_all (state_with m x.machine w) cards (keys_left x.machine.keys w) w.sectors)) (hopper_said m x.machine text w)
+    λ i. option_map (place_with m x) (over_all (λ es ks pack. record (state_with m x.machine w es ks pack) { written = texts_other units.Report text w refl i }) (hopper_said m x.machine text w i) (keys_left x.machine.keys w) w.sectors)
 
 -- what a session has taken of the cards and the lines of the keyboard
 stands_taken : (m : ℕ) (c : Course) (x : DebuggerState m) (start : World) (s : Session) → StandsIn m c x start s → HasTaken c.first.state (nth_place c s.furthest).state (session_events c s.acts)
