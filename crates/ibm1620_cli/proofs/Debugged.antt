@@ -14,7 +14,7 @@ use Rattle.cpu_step.specs.declared.console.Console.{Console}
 use Rattle.cpu_step.specs.State.{State}
 use Rattle.cpu_step.specs.Load.{load_key, load_cut}
 use Rattle.cpu_step.specs.Outside.{load_events}
-use Rattle.cpu_step.specs.Machine.{state_of, IsPowered}
+use Rattle.cpu_step.specs.Machine.{machine_texts, state_of, IsPowered}
 use Rattle.cpu_step.specs.Console.{shown_on}
 use Rattle.cpu_step.proofs.Exact.{exact}
 use Rattle.cpu_step.proofs.InputsTaken.{HasTaken, taken_on, load_taken}
@@ -78,7 +78,7 @@ module _ (before : List Event) (limit : ℕ) (placed : List PlacedText) (p : Pro
   told = feed_at start.world
 
   abbrev powered_by : Feed → State
-  powered_by feed = set_up_at_power_on p feed (start.world.written units.Punched) (start.world.written units.Typed)
+  powered_by feed = set_up_at_power_on p feed (machine_texts start.world)
 
   abbrev loaded : Feed → LoadedMachine
   loaded feed = keyed_over p start.world g.lines feed

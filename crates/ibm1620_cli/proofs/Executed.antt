@@ -2,7 +2,6 @@
 use Rattle.std.proofs.Common.{◌≡◌, ℕ, ◌≤◌, true, List, [], ◌++◌, take, inl, inr, refl, sym, ◌∙◌, ap, subst, arith}
 use Rattle.std.proofs.lemmas.List.{append-nil}
 use Rattle.std.specs.Prelude.{Option, Some, None, is_some, IfSome, option_map}
-use Rattle.outside_io.specs.declared.host.Unit.TheVariants as units
 use Rattle.outside_io.specs.World.{World, Seen, Rose}
 use Rattle.outside_io.specs.Frame.{Keeps}
 use Rattle.outside_io.specs.Events.{Event, after_events, DidAll}
@@ -16,7 +15,7 @@ use Rattle.cpu_step.specs.State.{State}
 use Rattle.cpu_step.specs.Effects.{Effect}
 use Rattle.cpu_step.specs.Load.{state_for_load, load_trace, load_key, load_cut}
 use Rattle.cpu_step.specs.Outside.{all_outside, load_events}
-use Rattle.cpu_step.specs.Machine.{state_of, IsPowered, Frames, is_read, is_written}
+use Rattle.cpu_step.specs.Machine.{machine_texts, state_of, IsPowered, Frames, is_read, is_written}
 use Rattle.cpu_step.specs.Console.{shown_on}
 use Rattle.cpu_step.proofs.Exact.{exact, states_told, frames_both}
 use Rattle.cpu_step.proofs.InputsTaken.{HasTaken, taken_on, load_taken, load_cut_taken}
@@ -197,7 +196,7 @@ stops_on m had way before all more machine now base start new from last t shown 
 -- what the Load key and the steps of a deck do
 module _ (m steps : ℕ) (w : World) (lines : List ScriptLine) (pile cards : List Entry) (feed : Feed) where
   abbrev powered : State
-  powered = state_over_feed m (w.written units.Punched) (w.written units.Typed) cards feed
+  powered = state_over_feed m (machine_texts w) cards feed
 
   abbrev machine : LoadedMachine
   machine = machine_after_steps m steps w lines pile cards feed
@@ -221,16 +220,10 @@ module _ (m steps : ℕ) (w : World) (lines : List ScriptLine) (pile cards : Lis
 
 module _ {A : Type 0} (m steps limit : ℕ) (own : Option (List (List ℕ))) (before : List Event) (pile_of cards_of : A → List Entry) (feed_of : A → Feed) (told : Option A) (hopper : Hopper) (script : Script) (base start : Seen)
     (is_powered : (machine : Machine m) → IsPowered m hopper machine
-    → state_of m machine start.world ≡ option_map (λ a. state_over_feed m (start.world.written units.Punched) (start.world.written units.Typed) (cards_of a) (feed_of a)) told)
+    → state_of m machine start.world ≡ option_map (λ a. state_over_feed m (machine_texts start.world) (cards_of a) (feed_of a)) told)
     (later : base.faults ≤ start.faults) (did : DidAll before base.world start.world) (still : Unasked base.world start.world) (makings : AreMakings before) (own_is : own_cards hopper ≡ own) (begins : Begins hopper) (pile_is : IfSome told (λ a. IfSome (deck_left hopper start.world) (λ left. pile_of a ≡ left))) where
-  abbrev cards : Option (List ℕ)
-  cards = start.world.written units.Punched
-
-  abbrev words : Option (List ℕ)
-  words = start.world.written units.Typed
-
   abbrev powered_by : A → State
-  powered_by a = state_over_feed m cards words (cards_of a) (feed_of a)
+  powered_by a = state_over_feed m (machine_texts start.world) (cards_of a) (feed_of a)
 
   abbrev key_at : A → RunPlace
   key_at a = first_in (load_key (powered_by a)) []

@@ -9,9 +9,10 @@ use Rattle.card_code.specs.Entries.{Entry, hopper_of, entries_of_unit, unit_entr
 use Rattle.card_unit.specs.declared.hopper.Hopper.{Hopper}
 use Rattle.card_unit.specs.Hopper.{hopper_left, deck_left, own_cards, deck_and_data, Begins}
 use Rattle.cpu_step.specs.declared.machine.Machine.{Machine}
+use Rattle.cpu_step.specs.State.{UnitTexts}
 use Rattle.cpu_step.specs.Load.{state_at_power_on, load_key}
 use Rattle.cpu_step.specs.Outside.{load_events}
-use Rattle.cpu_step.specs.Machine.{state_of, over_all, IsPowered}
+use Rattle.cpu_step.specs.Machine.{machine_texts, state_of, over_all, IsPowered}
 use Rattle.operator_script.specs.declared.script.Script.{Script}
 use Rattle.operator_script.specs.declared.script.ScriptLine.{ScriptLine}
 use Rattle.operator_script.specs.Scripts.{lines_left}
@@ -26,22 +27,22 @@ use Rattle.ibm1620_cli.specs.Parts.{Executes}
 use Rattle.ibm1620_cli.proofs.SetUps.{set_up_after_steps, machine_after_steps}
 use Rattle.ibm1620_cli.proofs.Executed.{promise_executes}
 
-fed : (m : ℕ) → (deck cards keys : Option (List ℕ)) (sectors : Option (ℕ → List ℕ)) (punched typed : Option (List ℕ))
-    → over_all (λ es ks pack. state_at_power_on m es ks punched typed pack) (option_and_then (λ d. option_map (hopper_of [] d) cards) deck) (option_map (entries_of_unit units.Keys 0) keys) sectors
-    ≡ option_map (λ l. powered_to_load m l punched typed) (option_and_then (λ d. option_map (λ f. record { deck = d; feed = f }) (option_and_then (λ c. option_and_then (λ k. option_map (λ s. record { cards = c; keys = k; sectors = s }) sectors) keys) cards)) deck)
-fed m None cards keys sectors punched typed = refl
-fed m (Some d) None keys sectors punched typed = refl
-fed m (Some d) (Some c) None sectors punched typed = refl
-fed m (Some d) (Some c) (Some k) None punched typed = refl
-fed m (Some d) (Some c) (Some k) (Some s) punched typed = refl
+fed : (m : ℕ) → (deck cards keys : Option (List ℕ)) (sectors : Option (ℕ → List ℕ)) (written : UnitTexts)
+    → over_all (λ es ks pack. state_at_power_on m es ks written pack) (option_and_then (λ d. option_map (hopper_of [] d) cards) deck) (option_map (entries_of_unit units.Keys 0) keys) sectors
+    ≡ option_map (λ l. powered_to_load m l written) (option_and_then (λ d. option_map (λ f. record { deck = d; feed = f }) (option_and_then (λ c. option_and_then (λ k. option_map (λ s. record { cards = c; keys = k; sectors = s }) sectors) keys) cards)) deck)
+fed m None cards keys sectors written = refl
+fed m (Some d) None keys sectors written = refl
+fed m (Some d) (Some c) None sectors written = refl
+fed m (Some d) (Some c) (Some k) None written = refl
+fed m (Some d) (Some c) (Some k) (Some s) written = refl
 
 -- the state of a machine at power on
 pub powered_state : (m : ℕ) (hopper : Hopper) (w : World) → ((v : World) → hopper_left hopper v ≡ deck_and_data v) → (machine : Machine m) → IsPowered m hopper machine
-    → state_of m machine w ≡ option_map (λ l. powered_to_load m l (w.written units.Punched) (w.written units.Typed)) (loading_at w)
+    → state_of m machine w ≡ option_map (λ l. powered_to_load m l (machine_texts w)) (loading_at w)
 powered_state m hopper w holds machine is =
-    (λ i. over_all (λ es ks pack. record { core = is.core i; regs = is.regs i; panel = is.panel i; arms = is.arms i; hopper = es; keys = ks; punched = w.written units.Punched; typed = w.written units.Typed; sectors = pack; mode = is.halted i }) (hopper_left (is.hopper_in i) w) (is.keys_in w i) w.sectors)
-    ∙ ap (λ (o : Option (List Entry)). over_all (λ es ks pack. state_at_power_on m es ks (w.written units.Punched) (w.written units.Typed) pack) o (option_map (entries_of_unit units.Keys 0) (w.left units.Keys)) w.sectors) (holds w)
-    ∙ fed m (w.left units.Deck) (w.left units.Data) (w.left units.Keys) w.sectors (w.written units.Punched) (w.written units.Typed)
+    (λ i. over_all (λ es ks pack. record { core = is.core i; regs = is.regs i; panel = is.panel i; arms = is.arms i; hopper = es; keys = ks; written = machine_texts w; sectors = pack; mode = is.halted i }) (hopper_left (is.hopper_in i) w) (is.keys_in w i) w.sectors)
+    ∙ ap (λ (o : Option (List Entry)). over_all (λ es ks pack. state_at_power_on m es ks (machine_texts w) pack) o (option_map (entries_of_unit units.Keys 0) (w.left units.Keys)) w.sectors) (holds w)
+    ∙ fed m (w.left units.Deck) (w.left units.Data) (w.left units.Keys) w.sectors (machine_texts w)
 
 -- the entries of its reader's pile are those of Deck
 abbrev pile_of : Loading → List Entry
@@ -62,7 +63,7 @@ is_keyed m w lines = λ i l. record {
   cards = cards_to_load l;
   keys = lines_of_feed l.feed;
   taken = append-nil (load_events (state_over w (powered_to_load m l))) i;
-  first = first_over w (λ punched typed. load_key (powered_to_load m l punched typed)) lines;
+  first = first_over w (λ written. load_key (powered_to_load m l written)) lines;
 }
 
 pub promise_load : (m : ℕ) (settings : Settings) (hopper : Hopper) (script : Script) (start new : Seen) (answer : Answer) → ((w : World) → hopper_left hopper w ≡ deck_and_data w) → ((w : World) → deck_left hopper w ≡ unit_entries units.Deck w) → own_cards hopper ≡ None → Begins hopper

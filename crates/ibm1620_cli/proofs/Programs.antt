@@ -10,8 +10,9 @@ use Rattle.card_code.specs.Entries.{Entry, Text, hopper_of, entries_of_unit}
 use Rattle.card_unit.specs.declared.hopper.Hopper.{Hopper}
 use Rattle.card_unit.specs.Hopper.{hopper_left, deck_left, own_cards, cards_and_data, Begins}
 use Rattle.cpu_step.specs.declared.machine.Machine.{Machine}
+use Rattle.cpu_step.specs.State.{UnitTexts}
 use Rattle.cpu_step.specs.Load.{state_at_power_on, load_key}
-use Rattle.cpu_step.specs.Machine.{state_of, over_all, IsPowered}
+use Rattle.cpu_step.specs.Machine.{machine_texts, state_of, over_all, IsPowered}
 use Rattle.operator_script.specs.declared.script.Script.{Script}
 use Rattle.operator_script.specs.declared.script.ScriptLine.{ScriptLine}
 use Rattle.operator_script.specs.Scripts.{lines_left}
@@ -32,21 +33,21 @@ use Rattle.ibm1620_cli.proofs.Stepping.{last_stands}
 use Rattle.ibm1620_cli.proofs.Turned.{IsLoaded}
 use Rattle.ibm1620_cli.proofs.Executed.{steps_loaded, promise_executes}
 
-fed : (m : ℕ) (cards : List (List ℕ)) (rest keys : Option (List ℕ)) (sectors : Option (ℕ → List ℕ)) (punched typed : Option (List ℕ))
-    → over_all (λ es ks pack. state_at_power_on m es ks punched typed pack) (option_map (hopper_of cards []) rest) (option_map (entries_of_unit units.Keys 0) keys) sectors
-    ≡ option_map (λ feed. state_over_feed m punched typed (hopper_of cards [] feed.cards) feed) (feed_of rest keys sectors)
-fed m cards None keys sectors punched typed = refl
-fed m cards (Some c) None sectors punched typed = refl
-fed m cards (Some c) (Some k) None punched typed = refl
-fed m cards (Some c) (Some k) (Some s) punched typed = refl
+fed : (m : ℕ) (cards : List (List ℕ)) (rest keys : Option (List ℕ)) (sectors : Option (ℕ → List ℕ)) (written : UnitTexts)
+    → over_all (λ es ks pack. state_at_power_on m es ks written pack) (option_map (hopper_of cards []) rest) (option_map (entries_of_unit units.Keys 0) keys) sectors
+    ≡ option_map (λ feed. state_over_feed m written (hopper_of cards [] feed.cards) feed) (feed_of rest keys sectors)
+fed m cards None keys sectors written = refl
+fed m cards (Some c) None sectors written = refl
+fed m cards (Some c) (Some k) None written = refl
+fed m cards (Some c) (Some k) (Some s) written = refl
 
 -- the state of a machine at power on over these cards
 pub powered_state : (m : ℕ) (cards : List (List ℕ)) (hopper : Hopper) (w : World) → ((v : World) → hopper_left hopper v ≡ cards_and_data cards v) → (machine : Machine m) → IsPowered m hopper machine
-    → state_of m machine w ≡ option_map (λ feed. state_over_feed m (w.written units.Punched) (w.written units.Typed) (hopper_of cards [] feed.cards) feed) (feed_at w)
+    → state_of m machine w ≡ option_map (λ feed. state_over_feed m (machine_texts w) (hopper_of cards [] feed.cards) feed) (feed_at w)
 powered_state m cards hopper w holds machine is =
-    (λ i. over_all (λ es ks pack. record { core = is.core i; regs = is.regs i; panel = is.panel i; arms = is.arms i; hopper = es; keys = ks; punched = w.written units.Punched; typed = w.written units.Typed; sectors = pack; mode = is.halted i }) (hopper_left (is.hopper_in i) w) (is.keys_in w i) w.sectors)
-    ∙ ap (λ (o : Option (List Entry)). over_all (λ es ks pack. state_at_power_on m es ks (w.written units.Punched) (w.written units.Typed) pack) o (option_map (entries_of_unit units.Keys 0) (w.left units.Keys)) w.sectors) (holds w)
-    ∙ fed m cards (w.left units.Data) (w.left units.Keys) w.sectors (w.written units.Punched) (w.written units.Typed)
+    (λ i. over_all (λ es ks pack. record { core = is.core i; regs = is.regs i; panel = is.panel i; arms = is.arms i; hopper = es; keys = ks; written = machine_texts w; sectors = pack; mode = is.halted i }) (hopper_left (is.hopper_in i) w) (is.keys_in w i) w.sectors)
+    ∙ ap (λ (o : Option (List Entry)). over_all (λ es ks pack. state_at_power_on m es ks (machine_texts w) pack) o (option_map (entries_of_unit units.Keys 0) (w.left units.Keys)) w.sectors) (holds w)
+    ∙ fed m cards (w.left units.Data) (w.left units.Keys) w.sectors (machine_texts w)
 
 -- the entries of its reader's pile are these cards
 pub pile_told : (cards : List (List ℕ)) (hopper : Hopper) (w : World) → ((v : World) → deck_left hopper v ≡ Some (map Text cards)) → IfSome (feed_at w) (λ feed. IfSome (deck_left hopper w) (λ left. map Text cards ≡ left))
@@ -70,8 +71,8 @@ module _ (p : Program) (fits : Fits p) where
       pile = map Text (deck_of p);
       cards = cards_before (deck_of p) feed;
       keys = lines_of_feed feed;
-      taken = program_taken p feed (w.written units.Punched) (w.written units.Typed) fits i;
-      first = first_over w (λ punched typed. last_stands k (load_key (set_up_at_power_on p feed punched typed)) (over_powered p feed punched typed fits).running i) lines;
+      taken = program_taken p feed (machine_texts w) fits i;
+      first = first_over w (λ written. last_stands k (load_key (set_up_at_power_on p feed written)) (over_powered p feed written fits).running i) lines;
     }
 
     pub program_loaded : (feed : Feed) → IsLoaded (loaded feed)

@@ -2,11 +2,11 @@
 use Rattle.std.proofs.Common.{ℕ, zero, suc, ◌≡◌, ◌+◌, ◌-◌, ◌==◌, ◌≤◌, ◌<◌, false, List, [], ◌∷◌, ◌++◌, refl, sym, ap, ◌∙◌, arith, append_assoc}
 use Rattle.std.proofs.lemmas.Bool.Decides.{nat_tests}
 use Rattle.std.proofs.lemmas.List.{append-nil}
-use Rattle.std.specs.Prelude.{Option, if◌then◌else◌}
+use Rattle.std.specs.Prelude.{if◌then◌else◌}
 use Rattle.outside_io.specs.Events.{Event}
 use Rattle.cpu_step.specs.declared.machine.Mode.{Mode}
 use Rattle.cpu_step.specs.declared.machine.Mode.TheVariants.{Running}
-use Rattle.cpu_step.specs.State.{State}
+use Rattle.cpu_step.specs.State.{UnitTexts, State}
 use Rattle.cpu_step.specs.Step.{step}
 use Rattle.cpu_step.specs.Load.{load_key}
 use Rattle.cpu_step.specs.Outside.{load_events}
@@ -59,9 +59,9 @@ events_made n s running =
     ap (λ (j : ℕ). events_within n j (place s 0 [])) turns ∙ events_on n 0 n n 0 s [] (omega arith) (omega arith) tt running ∙ append-nil (events_of_steps n s)
 
 -- the Load key over a deck and the data cards, and the deck's steps, take the cards of the deck
-pub program_taken : (p : Program) (feed : Feed) (punched typed : Option (List ℕ)) → Fits p
-    → load_events (set_up_at_power_on p feed punched typed) ++ run_events (steps_of_deck p) (first_in (load_key (set_up_at_power_on p feed punched typed)) []) ≡ deck_taken (deck_of p)
-program_taken p feed punched typed fits =
-    let s : State = set_up_at_power_on p feed punched typed in
-    let over = over_powered p feed punched typed fits in
+pub program_taken : (p : Program) (feed : Feed) (written : UnitTexts) → Fits p
+    → load_events (set_up_at_power_on p feed written) ++ run_events (steps_of_deck p) (first_in (load_key (set_up_at_power_on p feed written)) []) ≡ deck_taken (deck_of p)
+program_taken p feed written fits =
+    let s : State = set_up_at_power_on p feed written in
+    let over = over_powered p feed written fits in
     ap (λ (ds : List Event). load_events s ++ ds) (events_made (steps_of_deck p) (load_key s) over.running) ∙ over.takes

@@ -14,7 +14,7 @@ use Rattle.card_code.specs.Entries.{Entry, Text, entries_of_unit, is_empty}
 use Rattle.disk_1311.specs.declared.TheConstants.{DRIVES}
 use Rattle.cpu_step.specs.declared.machine.Mode.{Mode}
 use Rattle.cpu_step.specs.declared.machine.Mode.TheVariants.{Running, Halted, Stopped, Empty, NoKeys, Jam, Faulted}
-use Rattle.cpu_step.specs.State.{State}
+use Rattle.cpu_step.specs.State.{UnitTexts, State}
 use Rattle.cpu_step.specs.Step.{step}
 use Rattle.cpu_step.specs.Load.{load_key}
 use Rattle.cpu_step.specs.Outside.{load_events}
@@ -220,37 +220,37 @@ module _ (m : ℕ) (form : DeckForm) (source : List ℕ) (feed : Feed) (sized : 
   l = load_of_made (made_of m form source) feed
 
   abbrev powered : Option (List ℕ) → Option (List ℕ) → State
-  powered punched typed = set_up_at_power_on p feed punched typed
+  powered written = set_up_at_power_on p feed written
 
   abbrev entered : Option (List ℕ) → Option (List ℕ) → State
-  entered punched typed = set_up_at_start p feed punched typed
+  entered written = set_up_at_start p feed written
 
   -- the same cards are in the hopper
-  same_powered : (punched typed : Option (List ℕ)) → powered_to_load m l punched typed ≡ powered punched typed
-  same_powered punched typed =
-      ap (λ (es : List Entry). state_over_feed m punched typed (es ++ entries_of_unit units.Data 0 feed.cards) feed) (deck_read form units.Deck 0 p.image p.start)
+  same_powered : (written : UnitTexts) → powered_to_load m l written ≡ powered written
+  same_powered written =
+      ap (λ (es : List Entry). state_over_feed m written (es ++ entries_of_unit units.Data 0 feed.cards) feed) (deck_read form units.Deck 0 p.image p.start)
 
   -- and the Load key was pressed over them
-  same_key : (punched typed : Option (List ℕ)) → state_after_load_key m l punched typed ≡ load_key (powered punched typed)
+  same_key : (written : UnitTexts) → state_after_load_key m l written ≡ load_key (powered written)
   unfolding state_after_load_key
-  same_key punched typed = ap load_key (same_powered punched typed)
+  same_key written = ap load_key (same_powered written)
 
-  over : (punched typed : Option (List ℕ)) → LoadsOver (deck_of p) p.image p.start k (powered punched typed) (entries_of_unit units.Data 0 feed.cards)
-  over punched typed = over_powered p feed punched typed fits
+  over : (written : UnitTexts) → LoadsOver (deck_of p) p.image p.start k (powered written) (entries_of_unit units.Data 0 feed.cards)
+  over written = over_powered p feed written fits
 
-  is_loaded : (punched typed : Option (List ℕ)) → after_steps k (load_key (powered punched typed)) ≡ entered punched typed
+  is_loaded : (written : UnitTexts) → after_steps k (load_key (powered written)) ≡ entered written
   unfolding set_up_after_load
-  is_loaded punched typed = is_entered p feed punched typed fits
+  is_loaded written = is_entered p feed written fits
 
   pub makes_trip : MakesRoundTrip p (made_of m form source) feed
   makes_trip = record {
     cards = deck_read form units.Deck 0 p.image p.start;
-    stands = λ punched typed. subst (λ (s : State). StandsAfter k s (entered punched typed)) (sym (same_key punched typed))
-        (stands_after k (load_key (powered punched typed)) (entered punched typed) (is_loaded punched typed) (over punched typed).running);
-    ends = λ punched typed. subst (λ (s : State). EndsAfter k s (entered punched typed)) (sym (same_key punched typed))
-        (ends_after k (load_key (powered punched typed)) (entered punched typed) (is_loaded punched typed) (over punched typed).running);
-    does = λ punched typed. subst (λ (s : State). DoesAfter k (deck_of p) s (entered punched typed)) (sym (same_powered punched typed))
-        (does_after k (deck_of p) (powered punched typed) (entered punched typed) (is_loaded punched typed) (over punched typed).running (over punched typed).takes);
+    stands = λ written. subst (λ (s : State). StandsAfter k s (entered written)) (sym (same_key written))
+        (stands_after k (load_key (powered written)) (entered written) (is_loaded written) (over written).running);
+    ends = λ written. subst (λ (s : State). EndsAfter k s (entered written)) (sym (same_key written))
+        (ends_after k (load_key (powered written)) (entered written) (is_loaded written) (over written).running);
+    does = λ written. subst (λ (s : State). DoesAfter k (deck_of p) s (entered written)) (sym (same_powered written))
+        (does_after k (deck_of p) (powered written) (entered written) (is_loaded written) (over written).running (over written).takes);
   }
 
 pub trip : RoundTripLaw
@@ -271,44 +271,44 @@ module _ (m : ℕ) (source : List ℕ) (sized : IsSize m) (good : refusal_of (si
   abbrev b : ℕ
   b = steps_of_boot m source
 
-  module _ (feed : Feed) (has : HasSectors image feed.sectors) (punched typed : Option (List ℕ)) where
+  module _ (feed : Feed) (has : HasSectors image feed.sectors) (written : UnitTexts) where
     abbrev data_cards : List Entry
     data_cards = entries_of_unit units.Data 0 feed.cards
 
     abbrev booted : State
-    booted = state_over_feed m punched typed (map Text (boot_cards m source) ++ data_cards) feed
+    booted = state_over_feed m written (map Text (boot_cards m source) ++ data_cards) feed
 
-    boot_powered : powered_to_load m (load_of_boot m source feed) punched typed ≡ booted
-    boot_powered = ap (λ (es : List Entry). state_over_feed m punched typed (es ++ data_cards) feed) (boot_read units.Deck 0 image start)
+    boot_powered : powered_to_load m (load_of_boot m source feed) written ≡ booted
+    boot_powered = ap (λ (es : List Entry). state_over_feed m written (es ++ data_cards) feed) (boot_read units.Deck 0 image start)
 
-    boot_key : state_after_load_key m (load_of_boot m source feed) punched typed ≡ load_key booted
+    boot_key : state_after_load_key m (load_of_boot m source feed) written ≡ load_key booted
     unfolding state_after_load_key
     boot_key = ap load_key boot_powered
 
     boot_over : DiskLoadsOver (boot_cards m source) image start b booted data_cards
     boot_over = disk_loads image start fit.each fit.above m booted data_cards sized (length-replicate (size m) zero_cell) refl fit.below fit.start_below has refl
 
-    boot_loaded : after_steps b (load_key booted) ≡ set_up_from_disk m source feed punched typed
+    boot_loaded : after_steps b (load_key booted) ≡ set_up_from_disk m source feed written
     unfolding set_up_from_disk
     boot_loaded =
         disk_loaded_from image start m booted data_cards fit.each fit.above sized (length-replicate (size m) zero_cell) refl fit.below fit.start_below has refl
-        ∙ ap (λ (panel : Panel). record (set_up_from_disk m source feed punched typed) { panel = panel }) (dark_cleared (is_empty data_cards))
+        ∙ ap (λ (panel : Panel). record (set_up_from_disk m source feed written) { panel = panel }) (dark_cleared (is_empty data_cards))
 
   -- where the program is entered
   same_zeros : disk_overlay (replicate (size m) zero_cell) image start ≡ overlay (replicate (size m) zero_cell) image start
   same_zeros = let low : 1 ≤ m = sized.0 in same_core image start (size m) (omega arith) (omega arith) fit.above fit.below
 
-  enters_same : (form : DeckForm) (feed : Feed) (punched typed : Option (List ℕ)) → set_up_from_disk m source feed punched typed ≡ record (set_up_at_start (program_of m form source) feed punched typed) { arms = arms_from_disk m source }
+  enters_same : (form : DeckForm) (feed : Feed) (written : UnitTexts) → set_up_from_disk m source feed written ≡ record (set_up_at_start (program_of m form source) feed written) { arms = arms_from_disk m source }
   unfolding set_up_at_start set_up_from_disk
-  enters_same form feed punched typed = ap (λ (core : List ℕ). record (set_up_from_disk m source feed punched typed) { core = core }) same_zeros
+  enters_same form feed written = ap (λ (core : List ℕ). record (set_up_from_disk m source feed written) { core = core }) same_zeros
 
   arms_same : m ≡ 1 → arms_from_disk m source ≡ replicate DRIVES 0
   arms_same is = ap (λ (c : ℕ). slice_set (replicate DRIVES 0) 0 c) (first_cylinder image fit.above (subst (λ (n : ℕ). All (IsBelow (size n)) image) is fit.below))
 
-  entered_same : m ≡ 1 → (form : DeckForm) (feed : Feed) (punched typed : Option (List ℕ)) → set_up_from_disk m source feed punched typed ≡ set_up_at_start (program_of m form source) feed punched typed
+  entered_same : m ≡ 1 → (form : DeckForm) (feed : Feed) (written : UnitTexts) → set_up_from_disk m source feed written ≡ set_up_at_start (program_of m form source) feed written
   unfolding set_up_at_start
-  entered_same is form feed punched typed =
-      enters_same form feed punched typed ∙ ap (λ (arms : List ℕ). record (set_up_at_start (program_of m form source) feed punched typed) { arms = arms }) (arms_same is)
+  entered_same is form feed written =
+      enters_same form feed written ∙ ap (λ (arms : List ℕ). record (set_up_at_start (program_of m form source) feed written) { arms = arms }) (arms_same is)
 
   -- what a placing leaves
   abbrev placing : List Event
@@ -335,14 +335,14 @@ module _ (m : ℕ) (source : List ℕ) (sized : IsSize m) (good : refusal_of (si
     cards = boot_read units.Deck 0 image start;
     sectors = λ before. sectors_read image before;
     placed = pack_placed;
-    stands = λ feed has punched typed. subst (λ (s : State). StandsAfter b s (set_up_from_disk m source feed punched typed)) (sym (boot_key feed has punched typed))
-        (stands_after b (load_key (booted feed has punched typed)) (set_up_from_disk m source feed punched typed) (boot_loaded feed has punched typed) (boot_over feed has punched typed).running);
-    ends = λ feed has punched typed. subst (λ (s : State). EndsAfter b s (set_up_from_disk m source feed punched typed)) (sym (boot_key feed has punched typed))
-        (ends_after b (load_key (booted feed has punched typed)) (set_up_from_disk m source feed punched typed) (boot_loaded feed has punched typed) (boot_over feed has punched typed).running);
-    does = λ feed has punched typed. subst (λ (s : State). DoesAfter b (boot_cards m source) s (set_up_from_disk m source feed punched typed)) (sym (boot_powered feed has punched typed))
-        (does_after b (boot_cards m source) (booted feed has punched typed) (set_up_from_disk m source feed punched typed) (boot_loaded feed has punched typed) (boot_over feed has punched typed).running (boot_over feed has punched typed).takes);
+    stands = λ feed has written. subst (λ (s : State). StandsAfter b s (set_up_from_disk m source feed written)) (sym (boot_key feed has written))
+        (stands_after b (load_key (booted feed has written)) (set_up_from_disk m source feed written) (boot_loaded feed has written) (boot_over feed has written).running);
+    ends = λ feed has written. subst (λ (s : State). EndsAfter b s (set_up_from_disk m source feed written)) (sym (boot_key feed has written))
+        (ends_after b (load_key (booted feed has written)) (set_up_from_disk m source feed written) (boot_loaded feed has written) (boot_over feed has written).running);
+    does = λ feed has written. subst (λ (s : State). DoesAfter b (boot_cards m source) s (set_up_from_disk m source feed written)) (sym (boot_powered feed has written))
+        (does_after b (boot_cards m source) (booted feed has written) (set_up_from_disk m source feed written) (boot_loaded feed has written) (boot_over feed has written).running (boot_over feed has written).takes);
     enters = enters_same;
-    same = λ is form. λ i feed punched typed. entered_same is form feed punched typed i;
+    same = λ is form. λ i feed written. entered_same is form feed written i;
   }
 
 pub disk_trip : DiskRoundTripLaw
@@ -444,8 +444,8 @@ trip_told words old new answer tells r none found =
     (record {
       deck_is = r.deck_is;
       read = t.cards;
-      ends = subst (λ (n : ℕ). EndsAfter n (state_over world (state_after_load_key c load)) enters) (sym r.steps_are) (t.ends (world.written units.Punched) (world.written units.Typed));
-      does = subst (λ (n : ℕ). DoesAfter n (deck_of p) (state_over world (powered_to_load c load)) enters) (sym r.steps_are) (t.does (world.written units.Punched) (world.written units.Typed));
+      ends = subst (λ (n : ℕ). EndsAfter n (state_over world (state_after_load_key c load)) enters) (sym r.steps_are) (t.ends (machine_texts world));
+      does = subst (λ (n : ℕ). DoesAfter n (deck_of p) (state_over world (powered_to_load c load)) enters) (sym r.steps_are) (t.does (machine_texts world));
     })
     tells none found
 
@@ -460,7 +460,7 @@ disk_trip_told words old new answer tells r none found =
     (record {
       deck_is = r.deck_is;
       read = t.cards;
-      ends = subst (λ (n : ℕ). EndsAfter n (state_over world (state_after_load_key c load)) enters) (sym r.steps_are) (t.ends r.load.feed r.sectors (world.written units.Punched) (world.written units.Typed));
-      does = subst (λ (n : ℕ). DoesAfter n (boot_cards c r.source) (state_over world (powered_to_load c load)) enters) (sym r.steps_are) (t.does r.load.feed r.sectors (world.written units.Punched) (world.written units.Typed));
+      ends = subst (λ (n : ℕ). EndsAfter n (state_over world (state_after_load_key c load)) enters) (sym r.steps_are) (t.ends r.load.feed r.sectors (machine_texts world));
+      does = subst (λ (n : ℕ). DoesAfter n (boot_cards c r.source) (state_over world (powered_to_load c load)) enters) (sym r.steps_are) (t.does r.load.feed r.sectors (machine_texts world));
     })
     tells none found

@@ -10,7 +10,7 @@ use Rattle.outside_io.specs.World.{World, Seen, Goes, same_unit}
 use Rattle.outside_io.specs.Whole.{Sends}
 use Rattle.outside_io.specs.Events.{Event, BindFile, WriteByte, WriteSector, TakeCard, TakeLine, after_event, after_events, text_events}
 use Rattle.outside_io.proofs.EventLemmas.{after_append, after_text, same_of, first_text, first_on, first_more, FailsWithin}
-use Rattle.cpu_step.specs.Effects.{Effect, Cell, Light, Arm, Punched, Typed, Sector, CardTaken, LineTaken}
+use Rattle.cpu_step.specs.Effects.{Effect, Cell, Light, Arm, Written, Sector, CardTaken, LineTaken}
 use Rattle.cpu_step.specs.State.{State}
 use Rattle.cpu_step.specs.Step.{instruction}
 use Rattle.cpu_step.specs.Load.{state_for_load, load_trace}
@@ -127,8 +127,7 @@ writes_effects [] = tt
 writes_effects (Cell s ∷ es) = writes_effects es
 writes_effects (Light l ∷ es) = writes_effects es
 writes_effects (Arm drive cylinder ∷ es) = writes_effects es
-writes_effects (Punched byte ∷ es) = writes_effects es
-writes_effects (Typed byte ∷ es) = writes_effects es
+writes_effects (Written u byte ∷ es) = writes_effects es
 writes_effects (Sector a bytes ∷ es) = (refl, writes_effects es)
 writes_effects (CardTaken ∷ es) = writes_effects es
 writes_effects (LineTaken ∷ es) = writes_effects es

@@ -42,7 +42,7 @@ commands_read m text =
 
 -- the Load key was pressed at power on over a program's deck
 abbrev pub keyed_program : Program → Feed → SetUp
-keyed_program p feed punched typed = load_key (set_up_at_power_on p feed punched typed)
+keyed_program p feed written = load_key (set_up_at_power_on p feed written)
 
 -- so it is loaded, over the texts of a world: the session begins at the deck's first card
 abbrev pub keyed_over : Program → World → List ScriptLine → Feed → LoadedMachine

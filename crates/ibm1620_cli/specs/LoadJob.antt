@@ -35,11 +35,11 @@ cards_to_load l = hopper_of [] l.deck l.feed.cards
 
 -- a machine with so many modules of core at power on, before them
 abbrev pub powered_to_load : ℕ → Loading → SetUp
-powered_to_load m l punched typed = state_over_feed m punched typed (cards_to_load l) l.feed
+powered_to_load m l written = state_over_feed m written (cards_to_load l) l.feed
 
 -- the Load key was pressed there
 unfoldable pub state_after_load_key : ℕ → Loading → SetUp
-state_after_load_key m l punched typed = load_key (powered_to_load m l punched typed)
+state_after_load_key m l written = load_key (powered_to_load m l written)
 
 -- so it is loaded, over the texts of a world: the turns begin at the first card
 abbrev pub keyed_machine : ℕ → World → List ScriptLine → Loading → LoadedMachine

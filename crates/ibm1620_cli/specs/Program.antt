@@ -11,7 +11,7 @@ use Rattle.disk_1311.specs.declared.TheConstants.{DRIVES}
 use Rattle.card_code.specs.Entries.{Entry, Text, hopper_of, entries_of_unit, is_empty}
 use Rattle.indicators.specs.declared.codes.TheConstants.{LAST_CARD}
 use Rattle.cpu_step.specs.declared.machine.Mode.TheVariants.{Running}
-use Rattle.cpu_step.specs.State.{State}
+use Rattle.cpu_step.specs.State.{UnitTexts, State}
 use Rattle.cpu_step.specs.Load.{load_key}
 use Rattle.operator_script.specs.declared.script.ScriptLine.{ScriptLine}
 use Rattle.operator_script.specs.Turn.{RunPlace}
@@ -60,24 +60,23 @@ cards_before deck feed = hopper_of deck [] feed.cards
 
 -- a machine at power on whose hopper has the deck and then the data cards
 abbrev pub set_up_at_power_on : Program → Feed → SetUp
-set_up_at_power_on p feed punched typed = state_over_feed p.modules punched typed (cards_before (deck_of p) feed) feed
+set_up_at_power_on p feed written = state_over_feed p.modules written (cards_before (deck_of p) feed) feed
 
 -- the deck was loaded: the Load key was pressed at power on, and the deck's steps were made
 unfoldable pub set_up_after_load : Program → Feed → SetUp
-set_up_after_load p feed punched typed = after_steps (steps_of_deck p) (load_key (set_up_at_power_on p feed punched typed))
+set_up_after_load p feed written = after_steps (steps_of_deck p) (load_key (set_up_at_power_on p feed written))
 
 -- the image stands over both standard tables and the transfer card in a core of zeros, the machine runs at the start, the data cards are
 -- in the hopper, and all else is as at power on
 unfoldable pub set_up_at_start : Program → Feed → SetUp
-set_up_at_start p feed punched typed = record {
+set_up_at_start p feed written = record {
   core = overlay (replicate (size p.modules) zero_cell) p.image p.start;
   regs = record { ir = p.start; ir2 = 0 };
   panel = set LAST_CARD (is_empty (entries_of_unit units.Data 0 feed.cards)) dark;
   arms = replicate DRIVES 0;
   hopper = entries_of_unit units.Data 0 feed.cards;
   keys = entries_of_unit units.Keys 0 feed.keys;
-  punched = punched;
-  typed = typed;
+  written = written;
   sectors = feed.sectors;
   mode = Running;
 }
@@ -111,7 +110,7 @@ KeepsProgramPromise m settings cards lines old new answer =
 -- and feed, whatever was done before, and whatever was punched and typed by then
 abbrev pub HeadlineLaw : Type 0
 HeadlineLaw = (own : Option (List (List ℕ))) (before : List Event) (limit : ℕ) (lines : List ScriptLine) (p : Program) (feed : Feed)
-    (punched typed : Option (List ℕ)) → Fits p
-    → let powered = set_up_at_power_on p feed punched typed in
-    turns_job own before limit (loaded_by p feed powered (first_in (set_up_after_load p feed punched typed) lines))
-    ≡ turns_job own before limit (loaded_by p feed powered (first_in (set_up_at_start p feed punched typed) lines))
+    (written : UnitTexts) → Fits p
+    → let powered = set_up_at_power_on p feed written in
+    turns_job own before limit (loaded_by p feed powered (first_in (set_up_after_load p feed written) lines))
+    ≡ turns_job own before limit (loaded_by p feed powered (first_in (set_up_at_start p feed written) lines))

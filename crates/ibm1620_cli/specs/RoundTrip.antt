@@ -1,6 +1,6 @@
 -- THE ROUND TRIP: the bytes of Object, given as Deck, are the cards again, and a load of them comes to where the program is entered, and
 -- ends and does what comes of that.
-use Rattle.std.specs.Prelude.{ℕ, ◌≡◌, ◌≢◌, ◌<◌, ◌≤◌, ◌+◌, false, ⊤, List, [], ◌∷◌, ◌++◌, length, map, replicate, slice_set, Option, Some, None, IfSome, Ok}
+use Rattle.std.specs.Prelude.{ℕ, ◌≡◌, ◌≢◌, ◌<◌, ◌≤◌, ◌+◌, false, ⊤, List, [], ◌∷◌, ◌++◌, length, map, replicate, slice_set, Some, None, IfSome, Ok}
 use Rattle.outside_io.specs.declared.host.Unit.TheVariants as units
 use Rattle.outside_io.specs.World.{World, Seen, Rose, all_units}
 use Rattle.outside_io.specs.Events.{Event, text_events, DidAll}
@@ -11,7 +11,7 @@ use Rattle.indicators.specs.declared.codes.TheConstants.{LAST_CARD}
 use Rattle.card_code.specs.Entries.{Text, entries_of_unit, is_empty}
 use Rattle.disk_1311.specs.declared.TheConstants.{DRIVES}
 use Rattle.cpu_step.specs.declared.machine.Mode.TheVariants.{Running}
-use Rattle.cpu_step.specs.State.{State}
+use Rattle.cpu_step.specs.State.{UnitTexts, State}
 use Rattle.cpu_step.specs.Load.{load_key}
 use Rattle.cpu_step.specs.Outside.{load_events}
 use Rattle.operator_script.specs.declared.script.Due.{Due}
@@ -93,13 +93,13 @@ load_of_made made feed = record { deck = made.object; feed = feed }
 --   does: and it takes its cards, and does outside what the run does from there, thing by thing, and nothing else.
 pub record MakesRoundTrip (p : Program) (made : SourceTexts) (feed : Feed) : Type 0 where
   pub cards : entries_of_unit units.Deck 0 made.object ≡ map Text (deck_of p)
-  pub stands : (punched typed : Option (List ℕ))
-      → StandsAfter (steps_of_deck p) (state_after_load_key p.modules (load_of_made made feed) punched typed) (set_up_at_start p feed punched typed)
-  pub ends : (punched typed : Option (List ℕ))
-      → EndsAfter (steps_of_deck p) (state_after_load_key p.modules (load_of_made made feed) punched typed) (set_up_at_start p feed punched typed)
-  pub does : (punched typed : Option (List ℕ))
+  pub stands : (written : UnitTexts)
+      → StandsAfter (steps_of_deck p) (state_after_load_key p.modules (load_of_made made feed) written) (set_up_at_start p feed written)
+  pub ends : (written : UnitTexts)
+      → EndsAfter (steps_of_deck p) (state_after_load_key p.modules (load_of_made made feed) written) (set_up_at_start p feed written)
+  pub does : (written : UnitTexts)
       → DoesAfter (steps_of_deck p) (deck_of p)
-      (powered_to_load p.modules (load_of_made made feed) punched typed) (set_up_at_start p feed punched typed)
+      (powered_to_load p.modules (load_of_made made feed) written) (set_up_at_start p feed written)
 
 -- THE ROUND TRIP of every source that breaks no rule, for each size of core, in both forms of its deck, with any data cards, keyboard and pack
 abbrev pub RoundTripLaw : Type 0
@@ -123,7 +123,7 @@ arms_from_disk m source = slice_set (replicate DRIVES 0) 0 (last_cylinder 0 (str
 -- the needed hundreds of a source's image stand over the transfer card in a core of zeros, the machine runs at the start, the data cards
 -- are in the hopper, the arm of drive 1 moved, and all else is as at power on
 unfoldable pub set_up_from_disk : ℕ → List ℕ → Feed → SetUp
-set_up_from_disk m source feed punched typed =
+set_up_from_disk m source feed written =
     let image = (assembled_source m source).pieces in
     let start = (assembled_source m source).start in
     record {
@@ -133,8 +133,7 @@ set_up_from_disk m source feed punched typed =
       arms = arms_from_disk m source;
       hopper = entries_of_unit units.Data 0 feed.cards;
       keys = entries_of_unit units.Keys 0 feed.keys;
-      punched = punched;
-      typed = typed;
+      written = written;
       sectors = feed.sectors;
       mode = Running;
     }
@@ -154,18 +153,18 @@ pub record MakesDiskRoundTrip (m : ℕ) (source : List ℕ) : Type 0 where
   pub placed : (before : List Event) (line : List ℕ) (old new : World)
       → DidAll (before ++ (placing_events (disk_placing m source) ++ text_events units.Report line)) old new
       → IfSome new.sectors (HasSectors (assembled_source m source).pieces)
-  pub stands : (feed : Feed) → HasSectors (assembled_source m source).pieces feed.sectors → (punched typed : Option (List ℕ))
+  pub stands : (feed : Feed) → HasSectors (assembled_source m source).pieces feed.sectors → (written : UnitTexts)
       → StandsAfter (steps_of_boot m source)
-      (state_after_load_key m (load_of_boot m source feed) punched typed) (set_up_from_disk m source feed punched typed)
-  pub ends : (feed : Feed) → HasSectors (assembled_source m source).pieces feed.sectors → (punched typed : Option (List ℕ))
+      (state_after_load_key m (load_of_boot m source feed) written) (set_up_from_disk m source feed written)
+  pub ends : (feed : Feed) → HasSectors (assembled_source m source).pieces feed.sectors → (written : UnitTexts)
       → EndsAfter (steps_of_boot m source)
-      (state_after_load_key m (load_of_boot m source feed) punched typed) (set_up_from_disk m source feed punched typed)
-  pub does : (feed : Feed) → HasSectors (assembled_source m source).pieces feed.sectors → (punched typed : Option (List ℕ))
+      (state_after_load_key m (load_of_boot m source feed) written) (set_up_from_disk m source feed written)
+  pub does : (feed : Feed) → HasSectors (assembled_source m source).pieces feed.sectors → (written : UnitTexts)
       → DoesAfter (steps_of_boot m source) (boot_cards m source)
-      (powered_to_load m (load_of_boot m source feed) punched typed) (set_up_from_disk m source feed punched typed)
-  pub enters : (form : DeckForm) (feed : Feed) (punched typed : Option (List ℕ))
-      → set_up_from_disk m source feed punched typed
-      ≡ record (set_up_at_start (program_of m form source) feed punched typed) { arms = arms_from_disk m source }
+      (powered_to_load m (load_of_boot m source feed) written) (set_up_from_disk m source feed written)
+  pub enters : (form : DeckForm) (feed : Feed) (written : UnitTexts)
+      → set_up_from_disk m source feed written
+      ≡ record (set_up_at_start (program_of m form source) feed written) { arms = arms_from_disk m source }
   pub same : m ≡ 1 → (form : DeckForm) → set_up_from_disk m source ≡ set_up_at_start (program_of m form source)
 
 -- THE ROUND TRIP BY DISK of every source that breaks no rule, for each size of core

@@ -4,8 +4,9 @@ use Rattle.outside_io.specs.declared.host.Unit.TheVariants as units
 use Rattle.outside_io.specs.World.{World}
 use Rattle.outside_io.specs.Events.{Event}
 use Rattle.card_code.specs.Entries.{Entry, entries_of_unit}
-use Rattle.cpu_step.specs.State.{State}
+use Rattle.cpu_step.specs.State.{UnitTexts, State}
 use Rattle.cpu_step.specs.Load.{state_at_power_on}
+use Rattle.cpu_step.specs.Machine.{machine_texts}
 use Rattle.operator_script.specs.declared.script.ScriptLine.{ScriptLine}
 use Rattle.operator_script.specs.declared.turns.Ending.{Ending}
 use Rattle.operator_script.specs.declared.turns.Ending.TheVariants as ending
@@ -37,10 +38,10 @@ feed_at w = feed_of (w.left units.Data) (w.left units.Keys) w.sectors
 abbrev pub lines_of_feed : Feed → List Entry
 lines_of_feed feed = entries_of_unit units.Keys 0 feed.keys
 
--- a machine with so many modules of core at power on, whose hopper has these cards, over these punched and typed texts
-abbrev pub state_over_feed : ℕ → Option (List ℕ) → Option (List ℕ) → List Entry → Feed → State
-state_over_feed m punched typed hopper feed =
-    state_at_power_on m hopper (lines_of_feed feed) punched typed feed.sectors
+-- a machine with so many modules of core at power on, whose hopper has these cards, over these texts of what it punched and typed
+abbrev pub state_over_feed : ℕ → UnitTexts → List Entry → Feed → State
+state_over_feed m written hopper feed =
+    state_at_power_on m hopper (lines_of_feed feed) written feed.sectors
 
 -- the place where the turns begin in a state: no step counts yet
 abbrev pub first_in : State → List ScriptLine → RunPlace
@@ -68,11 +69,11 @@ ends_a_run other = false
 
 -- a machine that has been set up, by the texts that the host tells of what was punched and typed by then
 abbrev pub SetUp : Type 0
-SetUp = Option (List ℕ) → Option (List ℕ) → State
+SetUp = UnitTexts → State
 
 -- its state over the texts of a world
 abbrev pub state_over : World → SetUp → State
-state_over w s = s (w.written units.Punched) (w.written units.Typed)
+state_over w s = s (machine_texts w)
 
 -- where the turns of a machine begin that is set up over the texts of a world
 abbrev pub first_over : World → SetUp → List ScriptLine → RunPlace
