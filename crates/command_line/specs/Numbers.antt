@@ -1,16 +1,6 @@
 -- The numbers that words give lie in their ranges.
 use Rattle.std.specs.Prelude.{ℕ, ◌≤◌}
-
--- a source that is made has so many statements at least, and so many at most
-abbrev pub fewest_made : ℕ
-fewest_made = 8
-
-abbrev pub most_made : ℕ
-most_made = 1600
-
--- the greatest number by which a source is made
-abbrev pub last_source : ℕ
-last_source = 999999
+use Rattle.command_line.specs.Reading.{fewest_made, last_source, most_made}
 
 -- a source that is made has so many statements, by such a number
 abbrev pub AreStatements : ℕ → Type 0

@@ -3,7 +3,6 @@ use Rattle.std.specs.Prelude.{ℕ, List, [], ◌∷◌, Option, Some, None, opti
 use Rattle.outside_io.specs.declared.host.Unit as unit
 use Rattle.line_words.specs.Words.{largest_number, number_in}
 use Rattle.line_words.specs.Rows.{Row, row, value_by_name}
-use Rattle.command_line.specs.Numbers.{fewest_made, last_source, most_made}
 use Rattle.command_line.specs.declared.options.Slot.{Slot}
 use Rattle.command_line.specs.declared.options.Slot.TheVariants.{File, Limit, Statements, Number, Form, Core}
 use Rattle.command_line.specs.declared.reading.Settings.{Settings}
@@ -34,6 +33,17 @@ pub record Said : Type 0 where
 -- how many steps a run makes at most where the words give no limit
 abbrev pub standard_limit : ℕ
 standard_limit = 1000000
+
+-- a source that is made has so many statements at least, and so many at most
+abbrev pub fewest_made : ℕ
+fewest_made = 8
+
+abbrev pub most_made : ℕ
+most_made = 1600
+
+-- the greatest number by which a source is made
+abbrev pub last_source : ℕ
+last_source = 999999
 
 -- THE TABLE of forms of an object deck
 abbrev pub deck_forms : List (Row DeckForm)

@@ -26,7 +26,7 @@ use Rattle.ibm1620_cli.specs.Promise as promise
 use Rattle.ibm1620_cli.specs.Turns.{Feed, status_of, ends_a_run, state_over, first_over, LoadedMachine, turns_job}
 use Rattle.ibm1620_cli.specs.Program.{deck_of, set_up_at_power_on, set_up_after_load, loaded_by}
 use Rattle.ibm1620_cli.specs.Source.{source_read, card_count, program_of, texts_of_program, made_of, made_events, promise_by, running_promise, assembly_promise}
-use Rattle.ibm1620_cli.specs.TrialJob.{trial_modules, trial_limit, job_of_trial, tried_promise}
+use Rattle.ibm1620_cli.specs.TrialJob.{trial_modules, trial_settings, job_of_trial, tried_promise}
 use Rattle.ibm1620_cli.specs.LoadJob.{script_read}
 use Rattle.ibm1620_cli.specs.Sessions.{session_job}
 use Rattle.ibm1620_cli.specs.DebugJob.{commands_read, keyed_over, debugging_of, debugged_promise, commands_promise, lines_promise}
@@ -81,13 +81,13 @@ module _ (words : List (List ℕ)) (old new : Seen) (answer : Answer) (t : FedTr
     with_program j = job_with_program (texts_of_program trial_modules source) j
 
     abbrev tried : Feed → Job
-    tried feed = job_behind binds (with_program (job_of_trial t.said.settings.statements t.said.settings.number (card_count trial_modules SelfLoading source) (turns_job (Some (deck_of (program_of trial_modules SelfLoading source))) (made_events (made_of trial_modules SelfLoading source)) trial_limit (loaded feed))))
+    tried feed = job_behind binds (with_program (job_of_trial t.said.settings.statements t.said.settings.number (card_count trial_modules SelfLoading source) (turns_job (Some (deck_of (program_of trial_modules SelfLoading source))) (made_events (made_of trial_modules SelfLoading source)) (trial_settings t.said.settings).limit (loaded feed))))
 
     by_source : (o : Option Refusal) → is_own answer.status ≡ true → Does (option_map (job_behind binds) (by o).job) → Ends
     by_source (Some r) own does = inr (ap is_refused does.status)
     by_source None own does =
-        let one : Does (Some (tried t.feed)) = subst Does (ap (λ (o : Option Feed). option_map (job_behind binds) (option_map with_program (option_map (job_of_trial t.said.settings.statements t.said.settings.number (card_count trial_modules SelfLoading source)) (option_map (λ feed. turns_job (Some (deck_of (program_of trial_modules SelfLoading source))) (made_events (made_of trial_modules SelfLoading source)) trial_limit (loaded feed)) o)))) t.feed_is) does in
-        let last = last_place trial_limit (loaded t.feed).first in
+        let one : Does (Some (tried t.feed)) = subst Does (ap (λ (o : Option Feed). option_map (job_behind binds) (option_map with_program (option_map (job_of_trial t.said.settings.statements t.said.settings.number (card_count trial_modules SelfLoading source)) (option_map (λ feed. turns_job (Some (deck_of (program_of trial_modules SelfLoading source))) (made_events (made_of trial_modules SelfLoading source)) (trial_settings t.said.settings).limit (loaded feed)) o)))) t.feed_is) does in
+        let last = last_place (trial_settings t.said.settings).limit (loaded t.feed).first in
         inl (subst (λ (s : Status). ends_a_run s ≡ true) (sym one.status) (own_ends last.steps (ending_of last.state) (subst (λ (s : Status). is_own s ≡ true) one.status own)))
 
   trial_said : DoesSaid t.said old new answer → (Rose old.faults new.faults → ⊥) → answer.status ≢ OutOfMemory → Ends

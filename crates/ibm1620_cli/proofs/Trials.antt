@@ -22,7 +22,7 @@ use Rattle.ibm1620_cli.specs.Turns.{Feed, feed_at, state_over, first_over, Loade
 use Rattle.ibm1620_cli.specs.Program.{Program, Fits, deck_of, set_up_at_power_on, set_up_after_load, loaded_by}
 use Rattle.ibm1620_cli.specs.Source.{card_count, program_of, made_of, made_events, promise_by, running_promise}
 use Rattle.ibm1620_cli.specs.RunJob.{turned_promise}
-use Rattle.ibm1620_cli.specs.TrialJob.{trial_modules, trial_limit, trial_settings, steps_of, trial_line, line_behind, job_of_trial, with_trial, tried_promise, trial_promise}
+use Rattle.ibm1620_cli.specs.TrialJob.{trial_modules, trial_settings, steps_of, trial_line, line_behind, job_of_trial, with_trial, tried_promise, trial_promise}
 use Rattle.ibm1620_cli.specs.Parts.{RefusesSource, breaks, no_memory, ReportsBy, ReportsTrial, StopsWithin, Stays}
 use Rattle.ibm1620_cli.proofs.Told.{if_some, all_some, if_both}
 use Rattle.ibm1620_cli.proofs.Leaving.{rest_reported}
@@ -156,8 +156,8 @@ module _ (settings : Settings) (source : List ℕ) (start : Seen) where
 
   run_inputs : Fits program → IfSome run.job HasInputs
   run_inputs fits =
-      if_map (λ feed. turns_job (Some (deck_of program)) texts trial_limit (loaded feed)) (feed_at start.world) HasInputs
-      (all_some (feed_at start.world) (λ feed. turns_inputs (Some (deck_of program)) texts trial_limit (loaded feed) (made_take (made_of trial_modules SelfLoading source)) (program_loaded program fits start.world [] feed)))
+      if_map (λ feed. turns_job (Some (deck_of program)) texts (trial_settings settings).limit (loaded feed)) (feed_at start.world) HasInputs
+      (all_some (feed_at start.world) (λ feed. turns_inputs (Some (deck_of program)) texts (trial_settings settings).limit (loaded feed) (made_take (made_of trial_modules SelfLoading source)) (program_loaded program fits start.world [] feed)))
 
   -- its program was run, and the line is added
   pub promise_tried : Fits program → (mid new : Seen) (ran : Answer) (status : Status) (count : ℕ) → count ≡ cards → start.faults ≤ mid.faults → ran.refusal ≡ None → ran.statement ≡ None → ReportsTrial settings.statements settings.number count mid new ran.status status → KeepsPromise run start mid ran

@@ -6,6 +6,7 @@ use Rattle.outside_io.specs.Events.{text_events}
 use Rattle.sps_generator.specs.Generated.{source_deck}
 use Rattle.report_lines.specs.Numbers.{at_count}
 use Rattle.deck_punch.specs.declared.form.DeckForm.TheVariants.{SelfLoading}
+use Rattle.command_line.specs.Reading.{standard_limit}
 use Rattle.command_line.specs.declared.reading.Settings.{Settings}
 use Rattle.ibm1620_cli.specs.declared.status.Status.{Status}
 use Rattle.ibm1620_cli.specs.declared.answer.Answer.{Answer}
@@ -18,13 +19,9 @@ use Rattle.ibm1620_cli.specs.RunJob.{turned_promise}
 abbrev pub trial_modules : ℕ
 trial_modules = 1
 
--- a trial runs for so many steps at most
-abbrev pub trial_limit : ℕ
-trial_limit = 1000000
-
--- the settings of its run: its own limit, and a self-loading deck
+-- the settings of its run: as many steps as a run makes without a limit, and a self-loading deck
 abbrev pub trial_settings : Settings → Settings
-trial_settings settings = record settings { limit = trial_limit; form = SelfLoading }
+trial_settings settings = record settings { limit = standard_limit; form = SelfLoading }
 
 -- the steps that a status counts
 abbrev pub steps_of : Status → Option ℕ

@@ -20,9 +20,6 @@ use report_lines::{LONGEST_LINE, push_count, push_number};
 use sps_generator::generate;
 use std::alloc::Global;
 
-// A trial runs for so many steps at most: as many as a run without a limit.
-const TRIAL_LIMIT: u64 = STANDARD_LIMIT;
-
 // Makes a source of so many statements by a number, assembles it, runs its program, and answers with the statement at IR.
 pub(crate) fn try_source<H: Host>(alloc: Global, host: &mut H, settings: Settings) -> Answer
     requires fits { AreNumbers settings.statements settings.number }
@@ -59,7 +56,7 @@ fn try_assembled<H: Host>(
         Err(_) => return Answer::of(Status::OutOfMemory),
     };
     let run = Settings {
-        limit: TRIAL_LIMIT,
+        limit: STANDARD_LIMIT,
         form: DeckForm::SelfLoading,
         ..settings
     };
