@@ -11,7 +11,7 @@ use Rattle.card_unit.specs.declared.hopper.Hopper.{Hopper}
 use Rattle.card_unit.specs.Hopper.{hopper_left, deck_left, own_cards, cards_and_data, Begins}
 use Rattle.cpu_step.specs.declared.machine.Machine.{Machine}
 use Rattle.cpu_step.specs.declared.console.Console.{Console}
-use Rattle.cpu_step.specs.State.{State}
+use Rattle.cpu_step.specs.State.{UnitTexts, State}
 use Rattle.cpu_step.specs.Load.{load_key, load_cut}
 use Rattle.cpu_step.specs.Outside.{load_events}
 use Rattle.cpu_step.specs.Machine.{machine_texts, state_of, IsPowered}
@@ -46,7 +46,7 @@ use Rattle.ibm1620_cli.specs.Sessions.{Debugging, course_from, session_from, ses
 use Rattle.ibm1620_cli.specs.Program.{Program, deck_of, set_up_at_power_on}
 use Rattle.ibm1620_cli.specs.RunJob.{turned_promise}
 use Rattle.ibm1620_cli.specs.Source.{program_of, made_of, made_events, events_at, promise_by, running_promise}
-use Rattle.ibm1620_cli.specs.DebugJob.{commands_read, keyed_over, debugging_of, debugged_promise, commands_promise, lines_promise}
+use Rattle.ibm1620_cli.specs.DebugJob.{commands_read, keyed_program, keyed_over, debugging_of, debugged_promise, commands_promise, lines_promise}
 use Rattle.ibm1620_cli.specs.Parts.{ShowsMachine, BreaksKey, PressesKey, HoldsSession, lacks_memory, breaks_key, breaks_session, ends_session, Reports, StopsWithin}
 use Rattle.ibm1620_cli.proofs.Told.{if_both, if_told, if_mapped, of_map, map_twice}
 use Rattle.ibm1620_cli.proofs.Programs.{powered_state, pile_told}
@@ -59,7 +59,7 @@ use Rattle.ibm1620_cli.proofs.Kept.{ReadyJob, promise_report, promise_memory}
 use Rattle.ibm1620_cli.proofs.Executed.{key_part, stops_on}
 use Rattle.ibm1620_cli.proofs.Readings.{read_apart}
 use Rattle.ibm1620_cli.proofs.Sources.{FollowsSource, source_apart}
-use Rattle.ibm1620_cli.proofs.Makings.{made_take, made_world}
+use Rattle.ibm1620_cli.proofs.Makings.{made_take, made_world, made_keeps_texts}
 use Rattle.ibm1620_cli.proofs.Runs.{turned_follows}
 
 -- what some acts do, and a first part of what the next does, is a first part of what all do
@@ -291,10 +291,17 @@ module _ (m : ℕ) (settings : Settings) (lines : List ScriptLine) (commands : L
   abbrev keyed_in : World → Feed → LoadedMachine
   keyed_in w feed = keyed_over (program_of m settings.form source) w lines feed
 
+  abbrev keyed_at : World → UnitTexts → Feed → LoadedMachine
+  keyed_at w texts feed =
+      let powered = set_up_at_power_on (program_of m settings.form source) feed texts in
+      record (keyed_in w feed) { powered = powered; taken = load_events powered; first = first_in (keyed_program (program_of m settings.form source) feed texts) lines }
+
   -- the session was held
   pub promise_debug_behind : (start mid new : Seen) (answer : Answer) → Goes start mid (after_events start.world made)
       → KeepsPromise (session_promise (Some deck) made given (keyed_in mid.world) (feed_at mid.world)) start new answer → KeepsPromise (debugged_promise m settings lines commands source start.world) start new answer
-  promise_debug_behind start mid new answer goes kept = subst (λ (w : World). KeepsPromise (session_promise (Some deck) made given (keyed_in w) (feed_at w)) start new answer) (goes.world ∙ made_world (made_of m settings.form source) start.world) kept
+  promise_debug_behind start mid new answer goes kept =
+      subst (λ (texts : UnitTexts). KeepsPromise (session_promise (Some deck) made given (keyed_at start.world texts) (feed_at start.world)) start new answer) (made_keeps_texts (made_of m settings.form source) start.world)
+      (subst (λ (w : World). KeepsPromise (session_promise (Some deck) made given (keyed_in w) (feed_at w)) start new answer) (goes.world ∙ made_world (made_of m settings.form source) start.world) kept)
 
   job_part : (o : Option Feed) (at : Feed → LoadedMachine) (start new : Seen) → Unasked start.world new.world → DidPart made start.world new.world → IfSome (option_map (λ feed. session_job (Some deck) made given (at feed)) o) (λ j. StopsAt j None start.world new.world)
   job_part None at start new still p = tt

@@ -28,6 +28,8 @@ use Rattle.ibm1620_cli.specs.Inputs.{reads_nothing}
 use Rattle.ibm1620_cli.specs.Promise.{answer_of, TakesNone, unasked, KeepsPromise, nothing_done}
 use Rattle.ibm1620_cli.specs.Program.{deck_of}
 use Rattle.deck_punch.specs.DeckText.{deck_text}
+use Rattle.cpu_step.specs.Machine.{machine_texts}
+use Rattle.cpu_step.proofs.Texts.{texts_other}
 use Rattle.ibm1620_cli.specs.Source.{assembled_source, program_of, SourceTexts, made_of, made_events}
 use Rattle.ibm1620_cli.specs.AssembleJob.{assembled_status, written_promise}
 use Rattle.ibm1620_cli.specs.Parts.{Reports, made_with, StopsWithin, EventsOccur, Stays}
@@ -63,6 +65,13 @@ module _ (made : SourceTexts) where
       ∙ after_append image listing (world_after_put units.Object made.object w)
       ∙ ap (λ (v : World). after_events v listing) (after_text units.Image made.image (world_after_put units.Object made.object w))
       ∙ after_text units.Listing made.listing (world_after_put units.Image made.image (world_after_put units.Object made.object w))
+
+  -- has the machine's texts as they were
+  pub made_keeps_texts : (w : World) → machine_texts (world_after_put units.Listing made.listing (world_after_put units.Image made.image (world_after_put units.Object made.object w))) ≡ machine_texts w
+  made_keeps_texts w =
+      texts_other units.Listing made.listing (world_after_put units.Image made.image (world_after_put units.Object made.object w)) refl
+      ∙ texts_other units.Image made.image (world_after_put units.Object made.object w) refl
+      ∙ texts_other units.Object made.object w refl
 
 object_makings : (text : List ℕ) → AreMakings (text_events units.Object text)
 object_makings [] = tt

@@ -17,7 +17,9 @@ use Rattle.ibm1620_cli.specs.declared.status.Status.TheVariants.{HostFault, OutO
 use Rattle.ibm1620_cli.specs.Makings.{AreMakings}
 use Rattle.ibm1620_cli.specs.Report.{report_line}
 use Rattle.ibm1620_cli.specs.Promise.{Job, job_behind, answer_of, Unasked, StopsAt, texts_alone, Promise, world_with_texts, Texts, KeepsPromise}
-use Rattle.ibm1620_cli.specs.Turns.{Feed, feed_at, LoadedMachine, turns_job, turns_promise, state_over, first_over}
+use Rattle.cpu_step.specs.State.{UnitTexts}
+use Rattle.cpu_step.specs.Machine.{machine_texts}
+use Rattle.ibm1620_cli.specs.Turns.{Feed, feed_at, LoadedMachine, turns_job, turns_promise, first_in}
 use Rattle.ibm1620_cli.specs.Program.{deck_of, set_up_at_power_on, set_up_after_load, loaded_by, program_promise}
 use Rattle.ibm1620_cli.specs.Source.{SourceTexts, program_of, made_of, made_events, events_by, events_of_source, events_at, promise_by, running_promise}
 use Rattle.ibm1620_cli.specs.RunJob.{turned_promise, script_promise}
@@ -27,7 +29,7 @@ use Rattle.ibm1620_cli.proofs.Writes.{stops_fails, stops_asked}
 use Rattle.ibm1620_cli.proofs.TakenInputs.{goes_unasked, stops_unasked}
 use Rattle.ibm1620_cli.proofs.Kept.{promise_made, promise_memory}
 use Rattle.ibm1620_cli.proofs.Sources.{FollowsSource, source_apart}
-use Rattle.ibm1620_cli.proofs.Makings.{makings_of, made_take, made_world}
+use Rattle.ibm1620_cli.proofs.Makings.{makings_of, made_take, made_world, made_keeps_texts}
 
 -- BEHIND WHAT WAS DONE BEFORE
 
@@ -59,8 +61,11 @@ module _ (m : ℕ) (settings : Settings) (lines : List ScriptLine) (source : Lis
   abbrev deck : List (List ℕ)
   deck = deck_of (program_of m settings.form source)
 
+  abbrev loaded_at : UnitTexts → Feed → LoadedMachine
+  loaded_at texts feed = loaded_by (program_of m settings.form source) feed (set_up_at_power_on (program_of m settings.form source) feed texts) (first_in (set_up_after_load (program_of m settings.form source) feed texts) lines)
+
   abbrev loaded : World → Feed → LoadedMachine
-  loaded w feed = loaded_by (program_of m settings.form source) feed (state_over w (set_up_at_power_on (program_of m settings.form source) feed)) (first_over w (set_up_after_load (program_of m settings.form source) feed) lines)
+  loaded w feed = loaded_at (machine_texts w) feed
 
   -- the texts are written, and then the turns are taken
   pub promise_run_behind : (start mid new : Seen) (answer : Answer) → Goes start mid (after_events start.world (made_events made))
@@ -68,7 +73,8 @@ module _ (m : ℕ) (settings : Settings) (lines : List ScriptLine) (source : Lis
   promise_run_behind start mid new answer goes kept =
       turns_behind (Some deck) (made_events made) settings.limit (loaded start.world) (feed_at start.world) start mid new goes.later
       (same_of mid.world (after_events start.world (made_events made)) goes.world) (goes_unasked (made_events made) start mid goes) (makings_of made) answer
-      (subst (λ (v : World). KeepsPromise (turns_promise (Some deck) [] settings.limit (loaded v) (feed_at v)) mid new answer) (goes.world ∙ made_world made start.world) kept)
+      (subst (λ (texts : UnitTexts). KeepsPromise (turns_promise (Some deck) [] settings.limit (loaded_at texts) (feed_at start.world)) mid new answer) (made_keeps_texts made start.world)
+      (subst (λ (v : World). KeepsPromise (turns_promise (Some deck) [] settings.limit (loaded v) (feed_at v)) mid new answer) (goes.world ∙ made_world made start.world) kept))
 
   job_part : (o : Option Feed) (at : Feed → LoadedMachine) (start new : Seen) → Unasked start.world new.world → DidPart (made_events made) start.world new.world → IfSome (option_map (λ feed. turns_job (Some deck) (made_events made) settings.limit (at feed)) o) (λ j. StopsAt j None start.world new.world)
   job_part None at start new still p = tt

@@ -17,6 +17,7 @@ use Rattle.cpu_step.specs.declared.machine.Mode.TheVariants.{Running, Halted, St
 use Rattle.cpu_step.specs.State.{UnitTexts, State}
 use Rattle.cpu_step.specs.Step.{step}
 use Rattle.cpu_step.specs.Load.{load_key}
+use Rattle.cpu_step.specs.Machine.{machine_texts}
 use Rattle.cpu_step.specs.Outside.{load_events}
 use Rattle.operator_script.specs.declared.script.Due.{Due}
 use Rattle.operator_script.specs.declared.script.Due.TheVariants as due
@@ -219,10 +220,10 @@ module _ (m : ℕ) (form : DeckForm) (source : List ℕ) (feed : Feed) (sized : 
   abbrev l : Loading
   l = load_of_made (made_of m form source) feed
 
-  abbrev powered : Option (List ℕ) → Option (List ℕ) → State
+  abbrev powered : UnitTexts → State
   powered written = set_up_at_power_on p feed written
 
-  abbrev entered : Option (List ℕ) → Option (List ℕ) → State
+  abbrev entered : UnitTexts → State
   entered written = set_up_at_start p feed written
 
   -- the same cards are in the hopper
