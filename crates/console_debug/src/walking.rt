@@ -1,5 +1,5 @@
 // Where a session stands among the places of a run: moves from one place to the next, be it made by a turn or kept, and back to a kept one.
-ghost use Rattle.std.specs.Prelude.{◌≡◌, ℕ, ◌<◌, ◌≤◌, ◌+◌, ◌-◌, IfSome, length, slice_get};
+ghost use Rattle.std.specs.Prelude.{◌≡◌, ◌<◌, ◌≤◌, IfSome, length, slice_get};
 ghost use Rattle.outside_io.specs.World.{Seen};
 ghost use Rattle.operator_script.specs.Run.{IsSameRun, standing_of};
 ghost use Rattle.console_debug.specs.CursorStates.{Advances, Backs, IsAtKept, IsFit, IsSameCursor, IsStepAhead, IsThere, KeepsScriptAndPlaces, cursor_state_at, cursor_state_of};

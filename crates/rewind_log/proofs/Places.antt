@@ -1,10 +1,9 @@
 -- The places of entries: one more at the front of the entries, and one less at their back.
-use Rattle.std.proofs.Common.{◌≡◌, ◌≢◌, ℕ, zero, suc, ◌+◌, ◌-◌, ◌*◌, ◌<◌, ◌≤◌, ◌==◌, Bool, true, false, List, [], ◌∷◌, ◌++◌, length, take, drop, refl, sym, ◌∙◌, ap, subst, arith, length-append, append_assoc}
-use Rattle.std.specs.Prelude.{Option, Some, None, IfSome, slice_get, if◌then◌else◌}
+use Rattle.std.proofs.Common.{◌≡◌, ℕ, zero, suc, ◌+◌, ◌-◌, ◌<◌, ◌≤◌, ◌==◌, Bool, true, false, List, [], ◌∷◌, ◌++◌, length, take, drop, refl, sym, ◌∙◌, ap, subst, arith, length-append}
+use Rattle.std.specs.Prelude.{Option, Some, None, IfSome, slice_get}
 use Rattle.std.proofs.lemmas.Bool.Decides.{nat_tests}
 use Rattle.std.proofs.lemmas.List.{take_all}
-use Rattle.digit_core.specs.{AgreeOutside, core_mixture, size}
-use Rattle.digit_core.proofs.Mixed.{mixed_all, mixed_back}
+use Rattle.digit_core.specs.{AgreeOutside}
 use Rattle.rewind_log.specs.declared.LogEntry.{LogEntry}
 use Rattle.cpu_step.specs.declared.machine.Machine.{Machine}
 use Rattle.rewind_log.specs.Kept.{Kept, places_with, machine_at, most_places, newest}

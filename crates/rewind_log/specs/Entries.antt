@@ -1,7 +1,7 @@
 -- How kept places are held: the core of the newest, and for each place the words in which the one before it differed.
 use Rattle.std.specs.Prelude.{ℕ, ⊤, ◌≡◌, ◌+◌, ◌-◌, ◌*◌, ◌≤◌, ◌==◌, List, [], ◌∷◌, ◌++◌, length, take, if◌then◌else◌}
 use Rattle.std.specs.List.{All}
-use Rattle.digit_core.specs.{IsSize, core_mixture, size}
+use Rattle.digit_core.specs.{IsSize, core_mixture}
 use Rattle.circular_buffer.specs.Buffer.{Buffer}
 use Rattle.rewind_log.specs.declared.LogEntry.{LogEntry}
 use Rattle.rewind_log.specs.Kept.{Kept, most_places}

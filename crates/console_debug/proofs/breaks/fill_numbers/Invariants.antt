@@ -1,8 +1,7 @@
 -- The last instruction at each address, of the first statements.
-use Rattle.std.proofs.Common.{◌≡◌, ◌≤◌, ◌<◌, ℕ, length, map, take}
+use Rattle.std.proofs.Common.{◌≡◌, ◌<◌, ℕ, length, map, take}
 use Rattle.std.specs.Prelude.{slice_index_or, unwrap_or}
 use Rattle.sps_listing.specs.Listing.{last_statement_at}
-use Rattle.sps_pass_one.specs.Layout.{most_statements}
 use Rattle.sps_pass_two.specs.Making.{text_of_placed}
 use Rattle.console_debug.proofs.breaks.fill_numbers.Given as goal
 

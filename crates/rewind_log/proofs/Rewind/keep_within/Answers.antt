@@ -1,5 +1,5 @@
 -- The newest core is that of the newest place.
-use Rattle.std.proofs.Common.{◌*◌, ◌<◌, ◌≤◌, List, length, sym, subst, lit<}
+use Rattle.std.proofs.Common.{◌*◌, ◌<◌, List, length, sym, subst, lit<}
 use Rattle.std.specs.Prelude.{IfSome}
 use Rattle.digit_core.specs.{AgreeOutside}
 use Rattle.rewind_log.specs.Kept.{Kept, newest}

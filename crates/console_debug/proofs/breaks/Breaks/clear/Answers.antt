@@ -1,5 +1,5 @@
 -- The mark of the statement moves to the end of the log.
-use Rattle.std.proofs.Common.{◌≡◌, ◌∙◌, ◌-◌, ℕ, List, length, refl, sym, ap, arith}
+use Rattle.std.proofs.Common.{◌≡◌, ◌∙◌, ◌-◌, length, refl, sym, ap, arith}
 use Rattle.std.specs.Prelude.{slice_index_or, slice_set}
 use Rattle.std.specs.Vec.{with_item}
 use Rattle.sps_listing.specs.Listing.{placed_texts}

@@ -1,5 +1,5 @@
 -- No entry counts, and the tables are zeros.
-use Rattle.std.proofs.Common.{◌≡◌, ◌<◌, ℕ, List, length, rules, ap, arith}
+use Rattle.std.proofs.Common.{ℕ, List, rules, ap, arith}
 use Rattle.std.proofs.lemmas.List.{length-map}
 use Rattle.sps_pass_two.specs.Making.{text_of_placed}
 use Rattle.sps_listing.specs.Listing.{placed_texts}

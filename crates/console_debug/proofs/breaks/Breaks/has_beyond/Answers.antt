@@ -1,5 +1,5 @@
 -- One entry after another.
-use Rattle.std.proofs.Common.{◌≡◌, ◌∙◌, ◌<◌, ◌+◌, ℕ, Bool, List, length, refl, sym, ap, arith}
+use Rattle.std.proofs.Common.{◌≡◌, ◌∙◌, ◌<◌, ◌+◌, ℕ, Bool, length, refl, sym, ap, arith}
 use Rattle.std.specs.List.{list_any}
 use Rattle.sps_listing.specs.Listing.{placed_texts}
 use Rattle.console_debug.specs.Breakpoints.{is_set, set_from, since_of}

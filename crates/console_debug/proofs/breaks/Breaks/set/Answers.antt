@@ -1,9 +1,7 @@
 -- One entry of the log more, which counts.
-use Rattle.std.proofs.Common.{◌≡◌, ◌∙◌, refl, sym, arith}
-use Rattle.std.specs.Prelude.{Some}
+use Rattle.std.proofs.Common.{◌∙◌, refl, sym, arith}
 use Rattle.sps_listing.specs.Listing.{placed_texts}
 use Rattle.console_debug.specs.declared.breaks.Breaks.{Breaks}
-use Rattle.console_debug.specs.Places.{statement_address}
 use Rattle.console_debug.proofs.Tables.{times_few, counts_few, set_on, tables_set}
 use Rattle.console_debug.proofs.breaks.Breaks.set.Goals as goal
 
