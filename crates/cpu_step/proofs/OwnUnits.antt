@@ -30,7 +30,7 @@ use Rattle.cpu_step.specs.declared.rows.CardRow.TheVariants as cards
 use Rattle.cpu_step.specs.declared.rows.DiskRow.{DiskRow}
 use Rattle.cpu_step.specs.declared.rows.DiskRow.TheVariants as disk
 use Rattle.cpu_step.specs.declared.rows.Operands.{Operands}
-use Rattle.cpu_step.specs.Rows.{instruction_row, uses}
+use Rattle.cpu_step.specs.Rows.{instruction_row}
 use Rattle.cpu_step.specs.State.{State}
 use Rattle.cpu_step.specs.Effects.{Effect, Cell, Light, Written, of_change, of_cards, of_keys, of_output, of_disk}
 use Rattle.cpu_step.specs.Act.{show_result, operands, operands_of_branch, on_console, on_cards, on_disk, in_out, move_of, action, act}
@@ -125,8 +125,8 @@ action_own row.H o s = All-nil IsOwn
 pub instruction_own : (s : State) → All IsOwn (instruction s).effects
 unfolding instruction
 instruction_own s =
-    read_own (fetch s.core s.regs.ir) (λ i. instruction_trace i s) (λ i. read_own (instruction_row i) (λ r. act r s)
-    (λ r. read_own (operands (uses r) s.core s.regs.ir) (λ o. action r o s) (λ o. action_own r o s)))
+    read_own (fetch s.core s.regs.ir) (λ i. instruction_trace i s) (λ i. read_own (instruction_row i) (λ f. act f s)
+    (λ f. read_own (operands f.uses s.core s.regs.ir) (λ o. action f.row o s) (λ o. action_own f.row o s)))
 
 -- nor does the Load key write any
 pub load_own : (s : State) → All IsOwn (load_trace (state_for_load s)).effects

@@ -35,7 +35,6 @@ use Rattle.instruction_table.specs.declared.MayStore.{MayStore}
 use Rattle.instruction_table.specs.declared.MayStore.TheVariants as column
 use Rattle.cpu_step.specs.declared.rows.Row.{Row}
 use Rattle.cpu_step.specs.declared.rows.Row.TheVariants as row
-use Rattle.cpu_step.specs.declared.rows.MoveOp.{MoveOp}
 use Rattle.cpu_step.specs.declared.rows.MoveOp.TheVariants as moves
 use Rattle.cpu_step.specs.declared.rows.InOutRow.TheVariants as io
 use Rattle.cpu_step.specs.declared.rows.ConsoleRow.{ConsoleRow}

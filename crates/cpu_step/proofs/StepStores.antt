@@ -1,5 +1,5 @@
 -- What a step stores, by what its instruction comes to.
-use Rattle.std.proofs.Common.{◌≡◌, ℕ, Bool, true, false, ◌==◌, ◌%◌, ◌<◌, List, [], ◌∷◌, length, refl, ◌∙◌, arith, length-set}
+use Rattle.std.proofs.Common.{◌≡◌, ℕ, Bool, true, false, ◌==◌, ◌<◌, List, [], ◌∷◌, length, refl, ◌∙◌, arith, length-set}
 use Rattle.std.specs.Prelude.{◌-◌, slice_set, Option, Some, None, Result, Ok, Err, if◌then◌else◌}
 use Rattle.digit_core.specs.Cell.{cell, store}
 use Rattle.indicators.specs.Panel.{set}
@@ -18,7 +18,7 @@ use Rattle.cpu_step.specs.declared.stores.Stores as may
 use Rattle.cpu_step.specs.declared.stores.Stores.TheVariants as kinds
 use Rattle.cpu_step.specs.State.{State}
 use Rattle.cpu_step.specs.Effects.{Effect, Cell, Light, Arm, Written, Sector, CardTaken, LineTaken, with_bytes, after}
-use Rattle.cpu_step.specs.Act.{Next, Goes, Halts, act, act_with, action, operands}
+use Rattle.cpu_step.specs.Act.{Next, Goes, Halts, act, action, operands}
 use Rattle.cpu_step.specs.Step.{check_stop, state_after_check, settle, instruction, step}
 use Rattle.cpu_step.specs.Known.{found_with, uses_at, ComesToRow}
 use Rattle.cpu_step.specs.Rows.{instruction_row}

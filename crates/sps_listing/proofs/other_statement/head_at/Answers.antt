@@ -13,14 +13,14 @@ loop-line-init c = rw c.new-walk.ensures (begins _ (head_in_steps c.args.stateme
 pub loop-line-smaller : goal.loop-line-smaller
 loop-line-smaller c = passed_less _ _ _ (passed _ _ _ c.in-Some.ensures.steps c.pass.new.self _ c.scan-s.ensures.is c.pass.ensures)
 
-pub returns-then-number-statement : goal.returns-then-number-statement
-returns-then-number-statement c =
+pub returns-then-line-statement : goal.returns-then-line-statement
+returns-then-line-statement c =
     let a = c.loop-line.invariant in
     let t = c.in-Some.ensures.steps in
     let line = c.in-Some.line.text.now in
     let steps = statements (state_before_next a.st (statement_of line)) c.next.new.self.lines in
     let head = head_stays _ _ _ t _ c.head.ensures in
-    sym (head_here a.st line steps c.in-Some.line.number c.args.statement c.head.result (a.number_is ∙ sym t.number) (a.head_is ∙ sym head) c.if-number-statement.true)
+    sym (head_here a.st line steps c.in-Some.line.number c.args.statement c.head.result (a.number_is ∙ sym t.number) (a.head_is ∙ sym head) c.if-line-statement.true)
     ∙ comes_here _ _ _ _ a line _ t.line
 
 pub loop-line-preserved : goal.loop-line-preserved
@@ -30,7 +30,7 @@ loop-line-preserved c =
     let line = c.in-Some.line.text.now in
     let passes = passed _ _ _ t c.pass.new.self _ c.scan-s.ensures.is c.pass.ensures in
     let steps = statements (state_before_next a.st (statement_of line)) c.pass.new.self.lines in
-    let same = head_later a.st line steps c.in-Some.line.number c.args.statement (a.number_is ∙ sym t.number) c.if-number-statement.false in
+    let same = head_later a.st line steps c.in-Some.line.number c.args.statement (a.number_is ∙ sym t.number) c.if-line-statement.false in
     rw passes.behind (next _ _ _ _ a line _ passes.front (head_in_steps c.args.statement) same)
 
 pub returns : goal.returns

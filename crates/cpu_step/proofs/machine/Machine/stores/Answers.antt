@@ -38,8 +38,8 @@ returns-in-Row-clause-within g c =
     rw (c.stores_by.ensures, c.at.ensures)
     (known_step _ _ _ _ _ c.in-Row.fields.stores (operands_at c.args.self.now.regs.ir c.in-Row.fields) (c.in-Row.ensures.comes.to_row _ c.in-Row.fields refl))
 
-pub at-in-Branch-requires : goal.at-in-Branch-requires
-at-in-Branch-requires g c =
+pub at-requires-in-Branch : goal.at-requires-in-Branch
+at-requires-in-Branch g c =
     let k = c.in-Branch.ensures.comes.to_branch _ c.in-Branch.fields _ refl in
     in_size g.row.M c.args.self.now.core c.args.self.now.regs.ir c.size_law.ensures.is_size c.size_law.ensures.length k.inside
 

@@ -1,4 +1,4 @@
-use Rattle.std.proofs.Common.{append_assoc}
+use Rattle.std.proofs.Common.{refl}
 use Rattle.std.proofs.Output.{has_written_of_eq}
 use Rattle.message_hints.specs.Usage.{command_usage}
 use Rattle.message_hints.proofs.usage.CommandUsageDisplay.fmt.Goals as goal
@@ -8,7 +8,5 @@ unfolding command_usage
 returns-clause-writes g c plain ok =
     has_written_of_eq _ _ _ _ _
     (rw c.word_of-word.ensures
-    (rw c.task_of-task.ensures
-    (rw c.required-needed.ensures
-    (rw c.others-more.ensures (simp append_assoc)))))
+    (rw c.task_of-task.ensures (rw c.required-needed.ensures (rw c.others-more.ensures refl))))
     (c.write.ensures.writes plain ok)
