@@ -16,25 +16,26 @@ use Rattle.traces.specs.Change.{Change, Stores, Lights}
 use Rattle.field_moves.specs.Move.{move_field}
 use Rattle.branch_ops.specs.declared.Regs.{Regs}
 use Rattle.branch_ops.specs.Registers.{on_at}
+use Rattle.instruction_table.specs.Table.{instruction_of, op_of}
 use Rattle.branch_ops.specs.Operands.{operands_used, branch_operands}
 use Rattle.branch_ops.specs.declared.rows.BranchOperands.{BranchOperands}
-use Rattle.branch_ops.specs.declared.BranchOp.{BranchOp}
-use Rattle.branch_ops.specs.declared.BranchOp.TheVariants.{Bt, Btm, Bb, Bd, Bnf, Bnr, Bng, Bi, Bni, B}
+use Rattle.instruction_table.specs.declared.InstructionRow.{InstructionRow}
+use Rattle.instruction_table.specs.declared.Op.{Op}
+use Rattle.instruction_table.specs.declared.Op.TheVariants.{Branch}
+use Rattle.instruction_table.specs.declared.BranchOp.{BranchOp}
+use Rattle.instruction_table.specs.declared.BranchOp.TheVariants.{Bt, Bb, Bd, Bnf, Bnr, Bng, Bi, Bni, B}
 
--- the branch of an opcode
+-- the branch of an opcode: the operation of its row of the table of instructions, where that is a branch
+abbrev pub branch_by : Op → Option BranchOp
+branch_by (Branch b) = Some b
+branch_by o = None
+
+abbrev pub branch_in_row : Option InstructionRow → Option BranchOp
+branch_in_row (Some r) = branch_by (op_of r)
+branch_in_row None = None
+
 abbrev pub branch_of : ℕ → Option BranchOp
-branch_of code =
-    if code == 27 then Some Bt
-    else if code == 17 then Some Btm
-    else if code == 42 then Some Bb
-    else if code == 43 then Some Bd
-    else if code == 44 then Some Bnf
-    else if code == 45 then Some Bnr
-    else if code == 55 then Some Bng
-    else if code == 46 then Some Bi
-    else if code == 47 then Some Bni
-    else if code == 49 then Some B
-    else None
+branch_of code = branch_in_row (instruction_of code)
 
 -- to the address where the test holds, else on at the next instruction
 abbrev pub go_if : Regs → Bool → ℕ → Regs
@@ -59,7 +60,6 @@ go_by_indicator r p code test = does_all (map Lights (test_lamps code)) (ends (O
 -- what each branch does over its operands
 abbrev pub branch_over : BranchOp → BranchOperands → List ℕ → Regs → Panel → Trace Change Regs Stop
 branch_over Bt o core r panel = transmit core r o.p o.q
-branch_over Btm o core r panel = transmit core r o.p o.q
 branch_over Bb o core r panel = ends (Ok (on_at r r.ir2))
 branch_over Bd o core r panel = go_by_digit core r o.p o.q (λ d. not (d.value == 0))
 branch_over Bnf o core r panel = go_by_digit core r o.p o.q (λ d. not d.flag)

@@ -8,7 +8,7 @@ use Rattle.indicators.specs.declared.Panel.{Panel}
 use Rattle.traces.specs.Trace.{Trace, map_answer}
 use Rattle.traces.specs.Change.{Change, core_after_changes, panel_after_changes}
 use Rattle.branch_ops.specs.declared.Regs.{Regs}
-use Rattle.branch_ops.specs.declared.BranchOp.{BranchOp}
+use Rattle.instruction_table.specs.declared.BranchOp.{BranchOp}
 use Rattle.branch_ops.specs.declared.rows.BranchOperands.{BranchOperands}
 use Rattle.branch_ops.specs.Branch.{branch_of, branch, branch_over, transmit}
 

@@ -3,16 +3,16 @@ ghost use Rattle.std.specs.Prelude.{◌≡◌, ◌+◌, ◌<◌, ◌≤◌, ◌^
 ghost use Rattle.digit_core.specs.Size.{size};
 ghost use Rattle.addr_indirect.specs.Fetch.{fetch};
 ghost use Rattle.branch_ops.specs.Branch.{go_if};
-ghost use Rattle.branch_ops.specs.declared.BranchOp.TheVariants.{Bd, Bnf, Bnr, Bng, Bi, Bni};
+ghost use Rattle.instruction_table.specs.declared.BranchOp.TheVariants.{Bd, Bnf, Bnr, Bng, Bi, Bni};
 ghost use Rattle.branch_ops.specs.Carried.{branch_in, processor, Carries, CarriesKnown, CarriesOut, GoesByDigit, GoesByTest, Transmits};
 ghost use Rattle.branch_ops.specs.Operands.{branch_operands, column_by, operands_used, tested_code};
 
-use crate::{BranchOp, Regs, branch_of};
+use crate::{Regs, branch_of};
 use addr_indirect::{Instr, Stop, immediate_q, p_operand, q_operand, read_at};
 use digit_core::{Core, GROUP_MARK, RECORD_MARK};
 use field_moves::tf;
 use indicators::Panel;
-use instruction_table::{InstructionRow, OperandUse, instruction_of};
+use instruction_table::{BranchOp, InstructionRow, OperandUse, instruction_of};
 
 /// Carries a branch out, and gives the address of the next instruction: P's operand, IR-2, or `regs.ir + 12`.
 ///
@@ -80,7 +80,6 @@ pub fn branch_known<const M: u32>(
     core.size_law();
     match op {
         BranchOp::Bt => transmit(core, regs, o.p, o.q),
-        BranchOp::Btm => transmit(core, regs, o.p, o.q),
         BranchOp::Bb => Ok(regs.ir2),
         BranchOp::Bd => bd(core, regs, o.p, o.q),
         BranchOp::Bnf => bnf(core, regs, o.p, o.q),
@@ -177,8 +176,10 @@ fn operands<const M: u32>(core: &Core<M>, ir: u32, instr: &Instr) -> Result<Bran
     }
 }
 
-// The indicator that Q8 Q9 name. Where one of them is over 9 they name none: 00.
-fn tested_code(instr: &Instr) -> u8
+/// The indicator that Q8 Q9 of an instruction name. Where one of them is over 9 they name none: 00.
+///
+/// Source: CPU manual, branch indicator.
+pub fn tested_code(instr: &Instr) -> u8
     ensures { result ≡ tested_code instr.now }
 {
     instr.q8_q9().unwrap_or(0)

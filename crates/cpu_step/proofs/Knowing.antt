@@ -17,7 +17,7 @@ use Rattle.addr_indirect.specs.Operands.{p_operand, q_operand}
 use Rattle.addr_indirect.proofs.Windows.{reads_in, up_more, up_none, fetch_is}
 use Rattle.instruction_table.specs.declared.MayStore.{MayStore}
 use Rattle.instruction_table.specs.declared.MayStore.TheVariants.{Nothing}
-use Rattle.branch_ops.specs.declared.BranchOp.TheVariants.{B}
+use Rattle.instruction_table.specs.declared.BranchOp.TheVariants.{B}
 use Rattle.cpu_step.specs.declared.rows.Row.{Row}
 use Rattle.cpu_step.specs.declared.rows.Row.TheVariants as rows
 use Rattle.cpu_step.specs.declared.rows.Uses.{Uses}

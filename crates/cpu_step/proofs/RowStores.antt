@@ -23,8 +23,12 @@ use Rattle.indicators.specs.declared.Panel.{Panel}
 use Rattle.indicators.specs.Panel.{set, on}
 use Rattle.indicators.specs.Lamps.{test_lamps}
 use Rattle.branch_ops.specs.declared.Regs.{Regs}
-use Rattle.branch_ops.specs.declared.BranchOp.{BranchOp}
-use Rattle.branch_ops.specs.declared.BranchOp.TheVariants as op
+use Rattle.instruction_table.specs.declared.MoveOp.{MoveOp}
+use Rattle.instruction_table.specs.declared.MoveOp.TheVariants as moves
+use Rattle.instruction_table.specs.declared.FeatureOp.{FeatureOp}
+use Rattle.instruction_table.specs.declared.FeatureOp.TheVariants as features
+use Rattle.instruction_table.specs.declared.BranchOp.{BranchOp}
+use Rattle.instruction_table.specs.declared.BranchOp.TheVariants as op
 use Rattle.branch_ops.specs.declared.rows.BranchOperands.{BranchOperands}
 use Rattle.branch_ops.specs.Branch.{transmit, go_by_digit, go_by_indicator, go_if, branch_over}
 use Rattle.branch_ops.proofs.Changes.{core_stored, core_lit}
@@ -35,13 +39,12 @@ use Rattle.instruction_table.specs.declared.MayStore.{MayStore}
 use Rattle.instruction_table.specs.declared.MayStore.TheVariants as column
 use Rattle.cpu_step.specs.declared.rows.Row.{Row}
 use Rattle.cpu_step.specs.declared.rows.Row.TheVariants as row
-use Rattle.cpu_step.specs.declared.rows.MoveOp.TheVariants as moves
+use Rattle.cpu_step.specs.declared.rows.InOutRow.{InOutRow}
 use Rattle.cpu_step.specs.declared.rows.InOutRow.TheVariants as io
 use Rattle.cpu_step.specs.declared.rows.ConsoleRow.{ConsoleRow}
 use Rattle.cpu_step.specs.declared.rows.ConsoleRow.TheVariants as console
 use Rattle.cpu_step.specs.declared.rows.CardRow.{CardRow}
 use Rattle.cpu_step.specs.declared.rows.CardRow.TheVariants as cards
-use Rattle.cpu_step.specs.declared.rows.Second.{Second}
 use Rattle.cpu_step.specs.Rows.{takes_odd}
 use Rattle.cpu_step.specs.declared.rows.Operands.{Operands}
 use Rattle.cpu_step.specs.declared.stores.Stores as may
@@ -50,7 +53,7 @@ use Rattle.cpu_step.specs.State.{State}
 use Rattle.cpu_step.specs.Effects.{Cell, Written, of_output, with_bytes, after}
 use Rattle.card_unit.specs.Punch.{punch_numeric, punch_alphameric, punch_dump}
 use Rattle.typewriter.specs.Typing.{control, write_numeric, write_alphameric, write_dump}
-use Rattle.cpu_step.specs.Act.{show_result, sum_action, comparison_action, move_action, typing_action, pair_typing_action, punch_action, pair_punch_action, on_console, on_cards, move_of, operands_of_branch, action}
+use Rattle.cpu_step.specs.Act.{show_result, sum_action, comparison_action, move_action, typing_action, pair_typing_action, punch_action, pair_punch_action, on_console, on_cards, operands_of_branch, action}
 use Rattle.cpu_step.specs.Stores.{KeepsOutside, down_below, stores_by}
 use Rattle.cpu_step.proofs.Parts.{after_cells, after_changes, after_shown, after_sum}
 use Rattle.cpu_step.proofs.FieldStores.{Sinks, move_sinks}
@@ -135,58 +138,57 @@ RowKeeps stores r = (o : Operands) (s : State) → o.p < length s.core → o.q <
 pub any_row : (r : Row) → RowKeeps column.Anywhere r
 any_row r o s inside second odd a out = absurd out
 
-pub nop_row : RowKeeps column.Nothing row.Nop
+nop_row : RowKeeps column.Nothing row.Nop
 unfolding action
 nop_row o s inside second odd a out = refl
 
-pub halt_row : RowKeeps column.Nothing row.H
+halt_row : RowKeeps column.Nothing row.H
 unfolding action
 halt_row o s inside second odd a out = refl
 
-pub sum_row : (kind : Kind) (which : Second) → RowKeeps column.Down (row.Sum kind which)
+sum_row : (kind : Kind) → RowKeeps column.Down (row.Sum kind)
 unfolding action
-sum_row kind which o s inside second odd = sum_keeps s o.p o.q kind inside
+sum_row kind o s inside second odd = sum_keeps s o.p o.q kind inside
 
-pub compare_row : (which : Second) → RowKeeps column.Nothing (row.Compare which)
+compare_row : RowKeeps column.Nothing row.Compare
 unfolding action
-compare_row which o s inside second odd a out = comparison_keeps s (comparison s.core o.p o.q) a
+compare_row o s inside second odd a out = comparison_keeps s (comparison s.core o.p o.q) a
 
--- what moves or changes digits in core
-pub digit_row : (which : Second) → RowKeeps column.Cell (row.Move (moves.Digit which))
-unfolding action move_of
-digit_row which o s inside second odd = move_keeps (kinds.Cell o.p) s (copy_digit s.core o.p o.q) (λ a other. one_cell s.core o.p (λ d. d) (read_at s.core o.q) a other)
+-- what moves digits or changes a flag
+abbrev move_column : MoveOp → MayStore
+move_column moves.Digit = column.Cell
+move_column moves.Field = column.Down
+move_column moves.Record = column.Up
+move_column moves.SetFlag = column.Cell
+move_column moves.ClearFlag = column.Cell
 
-pub field_row : (which : Second) → RowKeeps column.Down (row.Move (moves.Field which))
-unfolding action move_of
-field_row which o s inside second odd = move_keeps (kinds.Down o.p) s (move_field s.core o.p o.q) (within_down s.core _ o.p (move_sinks s.core o.p o.q inside))
+move_row : (m : MoveOp) → RowKeeps (move_column m) (row.Move m)
+unfolding action
+move_row moves.Digit o s inside second odd = move_keeps (kinds.Cell o.p) s (copy_digit s.core o.p o.q) (λ a other. one_cell s.core o.p (λ d. d) (read_at s.core o.q) a other)
+move_row moves.Field o s inside second odd = move_keeps (kinds.Down o.p) s (move_field s.core o.p o.q) (within_down s.core _ o.p (move_sinks s.core o.p o.q inside))
+move_row moves.Record o s inside second odd = move_keeps (kinds.Up o.p) s (move_record s.core o.p o.q) (within_up s.core _ o.p (record_rises s.core o.p o.q inside))
+move_row moves.SetFlag o s inside second odd = move_keeps (kinds.Cell o.p) s (set_flag s.core o.p) (λ a other. one_cell s.core o.p (with_flag true) (read_at s.core o.p) a other)
+move_row moves.ClearFlag o s inside second odd = move_keeps (kinds.Cell o.p) s (clear_flag s.core o.p) (λ a other. one_cell s.core o.p (with_flag false) (read_at s.core o.p) a other)
 
-pub record_row : RowKeeps column.Up (row.Move moves.Record)
-unfolding action move_of
-record_row o s inside second odd = move_keeps (kinds.Up o.p) s (move_record s.core o.p o.q) (within_up s.core _ o.p (record_rises s.core o.p o.q inside))
+-- the special features
+abbrev feature_column : FeatureOp → MayStore
+feature_column features.Strip = column.DownFromQ
+feature_column features.Fill = column.Down
+feature_column f = column.Anywhere
 
-pub set_row : RowKeeps column.Cell (row.Move moves.SetFlag)
-unfolding action move_of
-set_row o s inside second odd = move_keeps (kinds.Cell o.p) s (set_flag s.core o.p) (λ a other. one_cell s.core o.p (with_flag true) (read_at s.core o.p) a other)
-
-pub clear_row : RowKeeps column.Cell (row.Move moves.ClearFlag)
-unfolding action move_of
-clear_row o s inside second odd = move_keeps (kinds.Cell o.p) s (clear_flag s.core o.p) (λ a other. one_cell s.core o.p (with_flag false) (read_at s.core o.p) a other)
-
-pub strip_row : RowKeeps column.DownFromQ (row.Move moves.Strip)
-unfolding action move_of
-strip_row o s inside second odd = move_keeps (kinds.Down o.q) s (strip s.core o.p o.q) (within_down s.core _ o.q (strip_sinks s.core o.p o.q second))
-
-pub fill_row : RowKeeps column.Down (row.Move moves.Fill)
-unfolding action move_of
-fill_row o s inside second odd = move_keeps (kinds.Down o.p) s (fill s.core o.p o.q) (within_down s.core _ o.p (fill_sinks s.core o.p o.q inside (odd refl)))
+feature_row : (f : FeatureOp) → RowKeeps (feature_column f) (row.Feature f)
+unfolding action
+feature_row features.Strip o s inside second odd = move_keeps (kinds.Down o.q) s (strip s.core o.p o.q) (within_down s.core _ o.q (strip_sinks s.core o.p o.q second))
+feature_row features.Fill o s inside second odd = move_keeps (kinds.Down o.p) s (fill s.core o.p o.q) (within_down s.core _ o.p (fill_sinks s.core o.p o.q inside (odd refl)))
+feature_row f o s inside second odd = λ a out. absurd out
 
 -- the typewriter and its keyboard
-abbrev pub console_column : ConsoleRow → MayStore
+abbrev console_column : ConsoleRow → MayStore
 console_column console.ReadNumeric = column.Anywhere
 console_column console.ReadAlpha = column.Anywhere
 console_column r = column.Nothing
 
-pub console_row : (r : ConsoleRow) → RowKeeps (console_column r) (row.InOut (io.Console r))
+console_row : (r : ConsoleRow) → RowKeeps (console_column r) (row.InOut (io.Console r))
 unfolding action on_console
 console_row console.Space o s inside second odd = typing_keeps s (control 1)
 console_row console.Return o s inside second odd = typing_keeps s (control 2)
@@ -198,12 +200,12 @@ console_row console.ReadNumeric o s inside second odd = λ a out. absurd out
 console_row console.ReadAlpha o s inside second odd = λ a out. absurd out
 
 -- the card reader and the punch
-abbrev pub card_column : CardRow → MayStore
+abbrev card_column : CardRow → MayStore
 card_column cards.ReadNumeric = column.Anywhere
 card_column cards.ReadAlpha = column.Anywhere
 card_column r = column.Nothing
 
-pub card_row : (r : CardRow) → RowKeeps (card_column r) (row.InOut (io.Cards r))
+card_row : (r : CardRow) → RowKeeps (card_column r) (row.InOut (io.Cards r))
 unfolding action on_cards
 card_row cards.Dump o s inside second odd = punch_keeps s (punch_dump s.core o.p)
 card_row cards.PunchNumeric o s inside second odd = punch_keeps s (punch_numeric s.core o.p)
@@ -216,13 +218,12 @@ read_first : {A : Type 0} (core : List ℕ) (r : Result A Stop) (f : A → Trace
 read_first core (Ok x) f rest = rest x
 read_first core (Err why) f rest = refl
 
-abbrev pub branch_column : BranchOp → MayStore
+abbrev branch_column : BranchOp → MayStore
 branch_column op.Bt = column.DownBelow
-branch_column op.Btm = column.DownBelow
 branch_column b = column.Nothing
 
 module _ (core : List ℕ) (r : Regs) (panel : Panel) where
-  -- BT, BTM
+  -- BT
   abbrev transmit_by : Bool → ℕ → ℕ → Trace Change Regs Stop
   transmit_by b p q = if b then ends (Err Address) else with_answer (λ _. record { ir = p; ir2 = r.ir + 12 }) (lift Stores (move_field core (p - 1) q))
 
@@ -245,7 +246,6 @@ module _ (core : List ℕ) (r : Regs) (panel : Panel) where
 
   branch_keeps : (b : BranchOp) (o : BranchOperands) (q : ℕ) → o.p < length core → KeepsOutside (stores_by (branch_column b) (record { p = o.p; q = q })) core (core_after_changes core (branch_over b o core r panel).effects)
   branch_keeps op.Bt o q inside = transmit_keeps o.p o.q inside
-  branch_keeps op.Btm o q inside = transmit_keeps o.p o.q inside
   branch_keeps op.Bb o q inside = λ a out. refl
   branch_keeps op.Bd o q inside = digit_keeps o.p o.q (λ d. not (d.value == 0))
   branch_keeps op.Bnf o q inside = digit_keeps o.p o.q (λ d. not d.flag)
@@ -255,8 +255,40 @@ module _ (core : List ℕ) (r : Regs) (panel : Panel) where
   branch_keeps op.Bni o q inside = indicator_keeps o.p o.code (not (on o.code panel))
   branch_keeps op.B o q inside = λ a out. refl
 
-pub branch_row : (b : BranchOp) (code : ℕ) → RowKeeps (branch_column b) (row.Branch b code)
+branch_row : (b : BranchOp) (code : ℕ) → RowKeeps (branch_column b) (row.Branch b code)
 unfolding action
 branch_row b code o s inside second odd =
     let t : Trace Change Regs Stop = branch_over b (operands_of_branch o code) s.core s.regs s.panel in
     subst (λ (new : List ℕ). KeepsOutside (stores_by (branch_column b) o) s.core new) (sym (ap (λ (x : State). x.core) (after_changes t.effects s))) (branch_keeps s.core s.regs s.panel b (operands_of_branch o code) o.q inside)
+
+-- the column of the units' rows, and of each row
+abbrev unit_column : InOutRow → MayStore
+unit_column (io.Console r) = console_column r
+unit_column (io.Cards r) = card_column r
+unit_column (io.Disk r) = column.Anywhere
+
+unit_row : (r : InOutRow) → RowKeeps (unit_column r) (row.InOut r)
+unit_row (io.Console r) = console_row r
+unit_row (io.Cards r) = card_row r
+unit_row (io.Disk r) = any_row (row.InOut (io.Disk r))
+
+abbrev pub row_column : Row → MayStore
+row_column (row.Sum kind) = column.Down
+row_column row.Compare = column.Nothing
+row_column (row.Move m) = move_column m
+row_column (row.Feature f) = feature_column f
+row_column (row.InOut r) = unit_column r
+row_column (row.Branch b code) = branch_column b
+row_column row.Nop = column.Nothing
+row_column row.H = column.Nothing
+
+-- EACH ROW'S ACTION STORES WITHIN ITS COLUMN.
+pub row_keeps : (r : Row) → RowKeeps (row_column r) r
+row_keeps (row.Sum kind) = sum_row kind
+row_keeps row.Compare = compare_row
+row_keeps (row.Move m) = move_row m
+row_keeps (row.Feature f) = feature_row f
+row_keeps (row.InOut r) = unit_row r
+row_keeps (row.Branch b code) = branch_row b code
+row_keeps row.Nop = nop_row
+row_keeps row.H = halt_row

@@ -130,8 +130,8 @@ over_nine_in_control core p = first_up is_over_nine core p (min 14 (length core 
 
 -- the cell over 9 at which a row stops: of a sum or a comparison, unless it's one of the add table, and of a row of the disk
 abbrev pub cell_over_nine : Row → List ℕ → Operands → Option ℕ
-cell_over_nine (row.Sum kind second) core o = over_nine_in_step core o.p o.q
-cell_over_nine (row.Compare second) core o = over_nine_in_step core o.p o.q
+cell_over_nine (row.Sum kind) core o = over_nine_in_step core o.p o.q
+cell_over_nine row.Compare core o = over_nine_in_step core o.p o.q
 cell_over_nine (row.InOut (io.Disk r)) core o = over_nine_in_control core o.p
 cell_over_nine r core o = None
 

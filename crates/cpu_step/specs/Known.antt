@@ -7,8 +7,8 @@ use Rattle.addr_indirect.specs.declared.Stop.{Stop}
 use Rattle.addr_indirect.specs.{fetch}
 use Rattle.instruction_table.specs.declared.MayStore.{MayStore}
 use Rattle.instruction_table.specs.declared.MayStore.TheVariants.{Nothing}
-use Rattle.branch_ops.specs.declared.BranchOp.{BranchOp}
-use Rattle.branch_ops.specs.declared.BranchOp.TheVariants.{B}
+use Rattle.instruction_table.specs.declared.BranchOp.{BranchOp}
+use Rattle.instruction_table.specs.declared.BranchOp.TheVariants.{B}
 use Rattle.cpu_step.specs.declared.rows.Row.{Row}
 use Rattle.cpu_step.specs.declared.rows.Row.TheVariants as row
 use Rattle.cpu_step.specs.declared.rows.Uses.{Uses}

@@ -1,21 +1,17 @@
 // What the rows do.
 ghost use Rattle.std.specs.Prelude.{◌≡◌, ◌<◌, ◌≤◌, ◌+◌, ◌%◌, true};
 ghost use Rattle.digit_core.specs.Size.{size};
-ghost use Rattle.traces.specs.Stored.{Did};
-ghost use Rattle.cpu_step.specs.Rows.{move_takes_odd};
-ghost use Rattle.cpu_step.specs.Act.{move_of};
 
 use crate::ends::{
     branch_outcome, card_outcome, core_outcome, disk_outcome, keyboard_outcome, typing_outcome,
 };
 use crate::fields::Fields;
 use crate::machine::{Machine, Outcome};
-use crate::rows::{CardRow, ConsoleRow, DiskRow, InOutRow, MoveOp, Operands, Row};
-use addr_indirect::Stop;
-use branch_ops::{BranchOp, BranchOperands, Regs, branch_known};
-use digit_core::Core;
-use feature_ops::{fill, move_flag, strip};
-use field_moves::{cf, sf, td, tf, tr};
+use crate::rows::{CardRow, ConsoleRow, DiskRow, InOutRow, Operands, Row};
+use branch_ops::{BranchOperands, Regs, branch_known};
+use feature_ops::do_feature;
+use field_moves::make_move;
+use instruction_table::BranchOp;
 use outside_io::Host;
 use table_arith::{add, compare};
 
@@ -50,12 +46,13 @@ impl<const M: u32> Machine<M> {
     {
         let regs = self.next();
         match row {
-            Row::Sum(kind, _) => core_outcome(
+            Row::Sum(kind) => core_outcome(
                 add(&mut self.core, o.p, o.q, kind, &mut self.panel),
                 regs,
             ),
-            Row::Compare(_) => core_outcome(compare(&self.core, o.p, o.q, &mut self.panel), regs),
-            Row::Move(op) => core_outcome(make_move(&mut self.core, op, o), regs),
+            Row::Compare => core_outcome(compare(&self.core, o.p, o.q, &mut self.panel), regs),
+            Row::Move(op) => core_outcome(make_move(&mut self.core, op, o.p, o.q), regs),
+            Row::Feature(op) => core_outcome(do_feature(&mut self.core, op, o.p, o.q), regs),
             Row::Nop => Outcome::Goes { regs },
             Row::H => Outcome::Halts { regs },
             Row::InOut(row) => self.in_out(row, o.p, regs, host),
@@ -196,29 +193,5 @@ impl<const M: u32> Machine<M> {
             ir: self.regs.ir + 12,
             ir2: self.regs.ir2,
         }
-    }
-}
-
-// Moves or changes digits in core.
-#[inline(always)]
-pub(crate) fn make_move<const M: u32>(
-    core: &mut Core<M>,
-    op: MoveOp,
-    o: Operands,
-) -> Result<(), Stop>
-    requires p { o.p < size M }
-    requires q { o.q < size M }
-    requires odd { move_takes_odd op ≡ true → o.p % 2 ≡ 1 }
-    ensures { Did core.old (move_of op o core.old) core.new result }
-{
-    match op {
-        MoveOp::Digit(_) => td(core, o.p, o.q),
-        MoveOp::Field(_) => tf(core, o.p, o.q),
-        MoveOp::Record => tr(core, o.p, o.q),
-        MoveOp::SetFlag => sf(core, o.p),
-        MoveOp::ClearFlag => cf(core, o.p),
-        MoveOp::Flag => move_flag(core, o.p, o.q),
-        MoveOp::Strip => strip(core, o.p, o.q),
-        MoveOp::Fill => fill(core, o.p, o.q),
     }
 }

@@ -301,7 +301,7 @@ fn cell_over_nine<const M: u32>(core: &Core<M>, row: Row, o: Operands) -> Option
     ensures { result ≡ cell_over_nine row core.now o }
 {
     match row {
-        Row::Sum(_, _) | Row::Compare(_) => over_nine_in_step(core, o.p, o.q),
+        Row::Sum(_) | Row::Compare => over_nine_in_step(core, o.p, o.q),
         Row::InOut(InOutRow::Disk(_)) => over_nine_in_control(core, o.p),
         _ => None,
     }

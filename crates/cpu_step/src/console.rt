@@ -47,7 +47,7 @@ impl<const M: u32> Machine<M> {
     {
         Console {
             regs: self.regs,
-            cells: self.cells_at_ir(),
+            cells: self.cells_at(self.regs.ir),
             panel: self.panel,
             arms: self.arms,
             part: self.check_part(),
@@ -68,11 +68,10 @@ impl<const M: u32> Machine<M> {
         }
     }
 
-    // The twelve cells that stand at IR, where they all lie in core.
-    fn cells_at_ir(&self) -> Option<[u8; 12]>
-        ensures { result ≡ cells_at self.now.core self.now.regs.ir }
+    // The twelve cells that stand at an address, where they all lie in core.
+    fn cells_at(&self, ir: u32) -> Option<[u8; 12]>
+        ensures { result ≡ cells_at self.now.core ir }
     {
-        let ir = self.regs.ir;
         if self.core.size() - CELLS < ir {
             return None;
         }

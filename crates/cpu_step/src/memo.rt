@@ -9,8 +9,8 @@ use crate::fields::{Fields, decoded_row};
 use crate::further::FurtherFields;
 use crate::rows::{Operands, Row};
 use addr_indirect::{Instr, Stop};
-use branch_ops::BranchOp;
 use digit_core::{Core, are_good, are_good_at, digit_in, ones_below, ten_across};
+use instruction_table::BranchOp;
 use std::alloc::{AllocError, Global};
 
 // What twelve cells come to.

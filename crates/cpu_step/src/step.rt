@@ -2,14 +2,16 @@
 ghost use Rattle.std.specs.Prelude.{◌≡◌, ◌<◌, ◌≤◌, ◌+◌, ◌%◌, true};
 ghost use Rattle.digit_core.specs.Size.{size};
 
-use crate::act::make_move;
 use crate::ends::{check_stop, core_outcome, show_parity};
 use crate::fields::decoded_row;
 use crate::machine::{Machine, Mode, Outcome, Turned};
 use crate::memo::Known;
 use crate::rows::{InOutRow, Operands, Row};
 use addr_indirect::{Stop, fetch};
-use branch_ops::{BranchOp, BranchOperands, Regs};
+use branch_ops::{BranchOperands, Regs};
+use feature_ops::do_feature;
+use field_moves::make_move;
+use instruction_table::BranchOp;
 use outside_io::Host;
 use table_arith::{add, compare};
 
@@ -57,16 +59,20 @@ impl<const M: u32> Machine<M> {
     {
         let regs = self.next();
         match row {
-            Row::Sum(kind, _) => {
+            Row::Sum(kind) => {
                 let answer = add(&mut self.core, o.p, o.q, kind, &mut self.panel);
                 self.settle(core_outcome(answer, regs))
             }
-            Row::Compare(_) => {
+            Row::Compare => {
                 let answer = compare(&self.core, o.p, o.q, &mut self.panel);
                 self.settle(core_outcome(answer, regs))
             }
             Row::Move(op) => {
-                let answer = make_move(&mut self.core, op, o);
+                let answer = make_move(&mut self.core, op, o.p, o.q);
+                self.settle(core_outcome(answer, regs))
+            }
+            Row::Feature(op) => {
+                let answer = do_feature(&mut self.core, op, o.p, o.q);
                 self.settle(core_outcome(answer, regs))
             }
             Row::Nop => self.settle(Outcome::Goes { regs }),

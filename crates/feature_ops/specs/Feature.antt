@@ -1,9 +1,11 @@
 -- Digits with zones: a flag that moves, and numbers between the form of one digit a position and that of two.
-use Rattle.std.specs.Prelude.{ℕ, zero, suc, false, ◌+◌, ◌-◌, ◌*◌, ◌/◌, ◌==◌, List, if◌then◌else◌, Ok, Err, ⊤}
+use Rattle.std.specs.Prelude.{ℕ, zero, suc, Bool, true, false, ◌+◌, ◌-◌, ◌*◌, ◌/◌, ◌==◌, List, if◌then◌else◌, Ok, Err, ⊤}
 use Rattle.digit_core.specs.Cell.{unflagged_digit, store, with_flag}
 use Rattle.addr_indirect.specs.declared.Stop.{Stop}
 use Rattle.addr_indirect.specs.declared.Stop.TheVariants.{Address}
 use Rattle.addr_indirect.specs.Reading.{read_at}
+use Rattle.instruction_table.specs.declared.FeatureOp.{FeatureOp}
+use Rattle.instruction_table.specs.declared.FeatureOp.TheVariants.{MoveFlag, Strip, Fill}
 use Rattle.traces.specs.Trace.{Trace, ends, ◌>>=◌}
 use Rattle.traces.specs.Stored.{Stored, stores}
 use Rattle.feature_ops.specs.declared.TheConstants.{NUMBER_ZONE, NEGATIVE_ZONE}
@@ -58,3 +60,15 @@ abbrev pub fill : List ℕ → ℕ → ℕ → Trace Stored ⊤ Stop
 fill core p q = do
   d ← read_at core q
   pair_first core (p - 1) (if d.flag then NEGATIVE_ZONE else NUMBER_ZONE) d.value (λ new. fill_cycles new (p / 2) q)
+
+-- what each operation of the special features does over its operands
+abbrev pub feature_of : FeatureOp → List ℕ → ℕ → ℕ → Trace Stored ⊤ Stop
+feature_of MoveFlag core p q = move_flag core p q
+feature_of Strip core p q = strip core p q
+feature_of Fill core p q = fill core p q
+
+-- P's units are those of a pair: it is odd
+abbrev pub takes_pairs : FeatureOp → Bool
+takes_pairs MoveFlag = false
+takes_pairs Strip = true
+takes_pairs Fill = true

@@ -9,23 +9,47 @@
 //! Source: this project's own.
 #![tactic(auto)]
 
-ghost use Rattle.std.specs.Prelude.{◌≡◌, ℕ, ◌+◌, ◌*◌, ◌<◌, ◌≤◌, ◌%◌, List};
+ghost use Rattle.std.specs.Prelude.{◌≡◌, ℕ, ◌+◌, ◌*◌, ◌<◌, ◌≤◌, ◌%◌, List, true};
 ghost use Rattle.digit_core.specs.{IsGood, unflagged_digit, size};
 ghost use Rattle.addr_indirect.specs.Reading.{read_at};
 ghost use Rattle.traces.specs.Stored.{Did};
-ghost use Rattle.feature_ops.specs.Feature.{move_flag, strip, strip_cycles, fill, fill_cycles, core_with_pair};
+ghost use Rattle.feature_ops.specs.Feature.{feature_of, takes_pairs, move_flag, strip, strip_cycles, fill, fill_cycles, core_with_pair};
 
 mod fives;
 
 use addr_indirect::{Stop, read_at};
 use digit_core::{Core, Digit};
 use fives::{are_still_apart, next_stripped, next_ten, rest_of_word, turn_filled};
+use instruction_table::FeatureOp;
 
 /// The zone of a number's digit.
 pub const NUMBER_ZONE: u8 = 7;
 
 /// The zone at the units of a negative number.
 pub const NEGATIVE_ZONE: u8 = 5;
+
+/// Carries out an operation of a special feature.
+///
+/// `p` and `q` are below the size of core; of a strip and a fill `p` is odd. What changes, and the stops, are those of the operation's own
+/// call.
+#[inline(always)]
+pub fn do_feature<const M: u32>(
+    core: &mut Core<M>,
+    op: FeatureOp,
+    p: u32,
+    q: u32,
+) -> Result<(), Stop>
+    requires p { p < size M }
+    requires odd { takes_pairs op ≡ true → p % 2 ≡ 1 }
+    requires q { q < size M }
+    ensures { Did core.old (feature_of op core.old p q) core.new result }
+{
+    match op {
+        FeatureOp::MoveFlag => move_flag(core, p, q),
+        FeatureOp::Strip => strip(core, p, q),
+        FeatureOp::Fill => fill(core, p, q),
+    }
+}
 
 /// Moves the flag of the digit at `q` to the one at `p`: the instruction MF.
 ///

@@ -9,7 +9,7 @@ ghost use Rattle.std.specs.Prelude.{◌≡◌, ℕ, ◌*◌, ◌<◌, List, IfSo
 ghost use Rattle.digit_core.specs.{IsGood, size};
 ghost use Rattle.addr_indirect.specs.Reading.{read_at};
 ghost use Rattle.traces.specs.Stored.{Did};
-ghost use Rattle.field_moves.specs.Move.{copy_digit, move_field, move_record};
+ghost use Rattle.field_moves.specs.Move.{copy_digit, move_field, move_of, move_record};
 ghost use Rattle.field_moves.specs.Flag.{set_flag, clear_flag};
 ghost use Rattle.field_moves.specs.Whole.{FieldMoves, RecordMoves, MovesWholeDown, MovesWholeUp, ReadsFirstDown, ReadsFirstUp};
 
@@ -17,6 +17,26 @@ use addr_indirect::{Stop, read_at};
 use digit_core::{
     Core, Digit, RECORD_MARK, are_good_at, field_in, ones_below, ones_from, record_in,
 };
+use instruction_table::MoveOp;
+
+/// Carries out an operation that moves digits within core or changes a flag.
+///
+/// `p` and `q` are below the size of core; SF and CF don't look at `q`. What changes, and the stops, are those of the operation's own call.
+/// Source: CPU manual, internal data transmission.
+#[inline(always)]
+pub fn make_move<const M: u32>(core: &mut Core<M>, op: MoveOp, p: u32, q: u32) -> Result<(), Stop>
+    requires p { p < size M }
+    requires q { q < size M }
+    ensures { Did core.old (move_of op core.old p q) core.new result }
+{
+    match op {
+        MoveOp::Digit => td(core, p, q),
+        MoveOp::Field => tf(core, p, q),
+        MoveOp::Record => tr(core, p, q),
+        MoveOp::SetFlag => sf(core, p),
+        MoveOp::ClearFlag => cf(core, p),
+    }
+}
 
 /// Copies the digit at `q` with its flag to `p`: the instruction TD.
 ///

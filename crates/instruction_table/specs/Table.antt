@@ -7,7 +7,7 @@ use Rattle.instruction_table.specs.declared.Op.{Op}
 use Rattle.instruction_table.specs.declared.MayStore.{MayStore}
 use Rattle.instruction_table.specs.declared.OperandUse.{OperandUse}
 use Rattle.instruction_table.specs.declared.OperandUse.TheVariants.{Both, OddBoth, Field, Digit, Indicator, First, OddFirst, Neither, FirstByDevice}
-use Rattle.instruction_table.specs.declared.table.TheConstants.{INSTRUCTIONS}
+use Rattle.instruction_table.specs.declared.TheConstants.{INSTRUCTIONS}
 
 -- the rows
 abbrev pub instructions : List InstructionRow

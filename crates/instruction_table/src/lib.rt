@@ -3,45 +3,32 @@
 //! The machine, the assembler and their definitions go by this one table. It says nothing of what an operation does.
 #![tactic(auto)]
 
-mod table;
+ghost use Rattle.std.specs.Prelude.{◌≡◌, map};
+ghost use Rattle.instruction_table.specs.Table.{instruction_of, row_in, codes_once, mnemonics_once, codes_with_a_field_in_q, flagged_by_the_assembler};
 
-pub use table::{INSTRUCTIONS, instruction_law, instruction_of};
+use crate::MayStore::{Anywhere, ByDevice, Cell, Down, DownBelow, DownFromQ, Nothing, Up};
+use crate::OperandUse::{
+    Both, Digit, Field, First, FirstByDevice, Indicator, Neither, OddBoth, OddFirst,
+};
 
-/// The operations of the machine, each by its mnemonic.
+/// The operations of the machine. Instructions that do the same over a second operand that stands elsewhere, as A and AM, have one operation:
+/// where the operand stands, their column says.
 ///
-/// Source: CPU manual, operation codes; `Mf`, `Tns` and `Tnf` are named after special features, and are this project's own.
+/// Source: CPU manual, operation codes.
 #[derive(Clone, Copy, Debug, PartialEq, Eq)]
 pub enum Op {
     /// Add.
     A,
-    /// Add immediate.
-    Am,
     /// Subtract.
     S,
-    /// Subtract immediate.
-    Sm,
     /// Compare.
     C,
-    /// Compare immediate.
-    Cm,
-    /// Transmit digit.
-    Td,
-    /// Transmit digit immediate.
-    Tdm,
-    /// Transmit field.
-    Tf,
-    /// Transmit field immediate.
-    Tfm,
-    /// Branch and transmit.
-    Bt,
-    /// Branch and transmit immediate.
-    Btm,
-    /// Transmit record.
-    Tr,
-    /// Set flag.
-    Sf,
-    /// Clear flag.
-    Cf,
+    /// Moves digits within core, or changes a flag.
+    Move(MoveOp),
+    /// An operation of a special feature.
+    Feature(FeatureOp),
+    /// Goes on elsewhere, always or by a test.
+    Branch(BranchOp),
     /// Control: of the typewriter, or a seek of the disk.
     K,
     /// Dump numerically.
@@ -56,30 +43,63 @@ pub enum Op {
     Wa,
     /// No operation.
     Nop,
-    /// Branch back.
-    Bb,
-    /// Branch on digit.
-    Bd,
-    /// Branch no flag.
-    Bnf,
-    /// Branch no record mark.
-    Bnr,
-    /// Branch no group mark.
-    Bng,
-    /// Branch indicator.
-    Bi,
-    /// Branch no indicator.
-    Bni,
     /// Halt.
     H,
-    /// Branch.
+}
+
+/// The operations that move digits within core or change a flag.
+///
+/// Source: CPU manual, internal data transmission.
+#[derive(Clone, Copy, Debug, PartialEq, Eq)]
+pub enum MoveOp {
+    /// Transmit digit: the digit at Q is copied to P.
+    Digit,
+    /// Transmit field: the field at Q is copied to P.
+    Field,
+    /// Transmit record: the record at Q is copied to P.
+    Record,
+    /// Set flag: the digit at P gets a flag.
+    SetFlag,
+    /// Clear flag: the digit at P loses its flag.
+    ClearFlag,
+}
+
+/// The operations of the special features.
+///
+/// Source: this project's own, after special features of the machine.
+#[derive(Clone, Copy, Debug, PartialEq, Eq)]
+pub enum FeatureOp {
+    /// Move flag: the flag of the digit at Q moves to P.
+    MoveFlag,
+    /// Transmit numerical strip: the pairs at P come to the field at Q without their zones.
+    Strip,
+    /// Transmit numerical fill: the field at Q comes to the pairs at P.
+    Fill,
+}
+
+/// The branches.
+///
+/// Source: CPU manual, branch instructions.
+#[derive(Clone, Copy, Debug, PartialEq, Eq)]
+pub enum BranchOp {
+    /// Branch and transmit: the field at Q moves to P-1, IR-2 keeps the next instruction's address, and P is gone to.
+    Bt,
+    /// Branch back: IR-2 is gone to.
+    Bb,
+    /// Branch on digit: P is gone to where the value at Q is not 0.
+    Bd,
+    /// Branch no flag: P is gone to where the digit at Q has no flag.
+    Bnf,
+    /// Branch no record mark: P is gone to where the value at Q is not 10.
+    Bnr,
+    /// Branch no group mark: P is gone to where the value at Q is not 15.
+    Bng,
+    /// Branch indicator: the indicator Q8 Q9 is tested, and P is gone to where it was on.
+    Bi,
+    /// Branch no indicator: the indicator Q8 Q9 is tested, and P is gone to where it was off.
+    Bni,
+    /// Branch: P is gone to.
     B,
-    /// Move flag.
-    Mf,
-    /// Transmit numerical strip.
-    Tns,
-    /// Transmit numerical fill.
-    Tnf,
 }
 
 /// The operands that an instruction uses.
@@ -136,3 +156,130 @@ pub enum MayStore {
 /// Source: CPU manual, operation codes; 71, 72 and 73 are this project's own.
 #[derive(Clone, Copy, Debug, PartialEq, Eq)]
 pub struct InstructionRow(pub u8, pub Op, pub OperandUse, pub MayStore);
+
+/// The table of instructions, each under its mnemonic, in the order of the manual.
+///
+/// Source: CPU manual, operation codes; 71, 72 and 73 are this project's own.
+pub static INSTRUCTIONS: [(&str, InstructionRow); 34] = [
+    ("A", InstructionRow(21, Op::A, Both, Down)),
+    ("AM", InstructionRow(11, Op::A, Field, Down)),
+    ("S", InstructionRow(22, Op::S, Both, Down)),
+    ("SM", InstructionRow(12, Op::S, Field, Down)),
+    ("C", InstructionRow(24, Op::C, Both, Nothing)),
+    ("CM", InstructionRow(14, Op::C, Field, Nothing)),
+    (
+        "TD",
+        InstructionRow(25, Op::Move(MoveOp::Digit), Both, Cell),
+    ),
+    (
+        "TDM",
+        InstructionRow(15, Op::Move(MoveOp::Digit), Digit, Cell),
+    ),
+    (
+        "TF",
+        InstructionRow(26, Op::Move(MoveOp::Field), Both, Down),
+    ),
+    (
+        "TFM",
+        InstructionRow(16, Op::Move(MoveOp::Field), Field, Down),
+    ),
+    (
+        "BT",
+        InstructionRow(27, Op::Branch(BranchOp::Bt), Both, DownBelow),
+    ),
+    (
+        "BTM",
+        InstructionRow(17, Op::Branch(BranchOp::Bt), Field, DownBelow),
+    ),
+    ("TR", InstructionRow(31, Op::Move(MoveOp::Record), Both, Up)),
+    (
+        "SF",
+        InstructionRow(32, Op::Move(MoveOp::SetFlag), First, Cell),
+    ),
+    (
+        "CF",
+        InstructionRow(33, Op::Move(MoveOp::ClearFlag), First, Cell),
+    ),
+    ("K", InstructionRow(34, Op::K, FirstByDevice, ByDevice)),
+    ("DN", InstructionRow(35, Op::Dn, First, Nothing)),
+    ("RN", InstructionRow(36, Op::Rn, First, Anywhere)),
+    ("RA", InstructionRow(37, Op::Ra, OddFirst, Anywhere)),
+    ("WN", InstructionRow(38, Op::Wn, First, ByDevice)),
+    ("WA", InstructionRow(39, Op::Wa, OddFirst, Nothing)),
+    ("NOP", InstructionRow(41, Op::Nop, Neither, Nothing)),
+    (
+        "BB",
+        InstructionRow(42, Op::Branch(BranchOp::Bb), Neither, Nothing),
+    ),
+    (
+        "BD",
+        InstructionRow(43, Op::Branch(BranchOp::Bd), Both, Nothing),
+    ),
+    (
+        "BNF",
+        InstructionRow(44, Op::Branch(BranchOp::Bnf), Both, Nothing),
+    ),
+    (
+        "BNR",
+        InstructionRow(45, Op::Branch(BranchOp::Bnr), Both, Nothing),
+    ),
+    (
+        "BNG",
+        InstructionRow(55, Op::Branch(BranchOp::Bng), Both, Nothing),
+    ),
+    (
+        "BI",
+        InstructionRow(46, Op::Branch(BranchOp::Bi), Indicator, Nothing),
+    ),
+    (
+        "BNI",
+        InstructionRow(47, Op::Branch(BranchOp::Bni), Indicator, Nothing),
+    ),
+    ("H", InstructionRow(48, Op::H, Neither, Nothing)),
+    (
+        "B",
+        InstructionRow(49, Op::Branch(BranchOp::B), First, Nothing),
+    ),
+    (
+        "MF",
+        InstructionRow(71, Op::Feature(FeatureOp::MoveFlag), Both, Anywhere),
+    ),
+    (
+        "TNS",
+        InstructionRow(72, Op::Feature(FeatureOp::Strip), OddBoth, DownFromQ),
+    ),
+    (
+        "TNF",
+        InstructionRow(73, Op::Feature(FeatureOp::Fill), OddBoth, Down),
+    ),
+];
+
+/// The row of an operation code, or `None` where the table has no such code.
+///
+/// Source: CPU manual, operation codes; 71, 72 and 73 are this project's own.
+pub fn instruction_of(code: u8) -> Option<InstructionRow>
+    ensures { result ≡ instruction_of code }
+{
+    row_in(&INSTRUCTIONS, code)
+}
+
+// The first row that has the code.
+fn row_in(rows: &[(&str, InstructionRow)], code: u8) -> Option<InstructionRow>
+    ensures { result ≡ row_in (map (λ r. r.1) rows.now) code }
+{
+    for (_, row) in rows {
+        if row.0 == code {
+            return Some(*row);
+        }
+    }
+    None
+}
+
+/// The law of the table: no code and no mnemonic stands twice, and a field in Q have the instructions on whose Q7 the assembler sets a flag.
+///
+/// Source: CPU manual, operation codes; SPS manual, flag operand.
+pub fn instruction_law()
+    ensures codes { codes_once }
+    ensures mnemonics { mnemonics_once }
+    ensures fields { codes_with_a_field_in_q ≡ flagged_by_the_assembler }
+{}

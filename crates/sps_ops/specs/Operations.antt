@@ -4,7 +4,7 @@
 use Rattle.std.specs.Prelude.{ℕ, ◌+◌, ◌/◌, ◌%◌, false, List, [], ◌∷◌, ◌++◌, map, Option, Some, None}
 use Rattle.line_words.specs.Blanks.{without_outer_blanks}
 use Rattle.instruction_table.specs.declared.InstructionRow.{InstructionRow}
-use Rattle.instruction_table.specs.declared.table.TheConstants.{INSTRUCTIONS}
+use Rattle.instruction_table.specs.declared.TheConstants.{INSTRUCTIONS}
 use Rattle.instruction_table.specs.Table.{code_of, uses_of, takes_field}
 use Rattle.sps_ops.specs.declared.operation.Operation.{Operation}
 use Rattle.sps_ops.specs.declared.operation.Operation.TheVariants.{Instruction, Declare}

@@ -5,9 +5,6 @@ use Rattle.branch_ops.proofs.rows.branch_known.Goals as goal
 pub returns-in-Bt-clause-row : goal.returns-in-Bt-clause-row
 returns-in-Bt-clause-row g c = rw c.in-Bt.is (c.transmit.ensures.row c.args.panel.now)
 
-pub returns-in-Btm-clause-row : goal.returns-in-Btm-clause-row
-returns-in-Btm-clause-row g c = rw c.in-Btm.is (c.transmit-in-Btm.ensures.row c.args.panel.now)
-
 pub returns-in-Bd-clause-row : goal.returns-in-Bd-clause-row
 returns-in-Bd-clause-row g c = rw c.in-Bd.is (c.bd.ensures c.args.panel.now)
 

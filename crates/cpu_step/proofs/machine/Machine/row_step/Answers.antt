@@ -3,7 +3,9 @@ use Rattle.std.proofs.Common.{refl, ap, arith}
 use Rattle.std.specs.Prelude.{Ok}
 use Rattle.cpu_step.specs.declared.machine.Outcome.TheVariants as outcome
 use Rattle.cpu_step.specs.declared.rows.Row.TheVariants as row
-use Rattle.cpu_step.specs.Act.{Goes, Halts, next, move_of, action}
+use Rattle.field_moves.specs.Move.{move_of}
+use Rattle.feature_ops.specs.Feature.{feature_of}
+use Rattle.cpu_step.specs.Act.{Goes, Halts, next, action}
 use Rattle.traces.specs.Trace.{ends}
 use Rattle.cpu_step.specs.State.{State}
 use Rattle.cpu_step.proofs.Shown.{did_nothing, did_as}
@@ -29,7 +31,14 @@ unfolding action
 returns-in-Move g c = λ old running acts.
     c.settle-in-Move.ensures old (g.H.Host.seen c.args.host.now) (g.H.Host.seen c.args.host.now) running (acts _ c.core_outcome-in-Move.result
     (rw (c.in-Move.is, c.core_outcome-in-Move.ensures, c.next-regs.ensures)
-    (move_acts g.row.M c.args.self.now _ (g.H.Host.seen c.args.host.now) refl refl refl refl refl (λ core. move_of c.in-Move.op c.args.o core) c.make_move-answer.result refl c.make_move-answer.ensures)))
+    (move_acts g.row.M c.args.self.now _ (g.H.Host.seen c.args.host.now) refl refl refl refl refl (λ core. move_of c.in-Move.op core c.args.o.p c.args.o.q) c.make_move-answer.result refl c.make_move-answer.ensures)))
+
+pub returns-in-Feature : goal.returns-in-Feature
+unfolding action
+returns-in-Feature g c = λ old running acts.
+    c.settle-in-Feature.ensures old (g.H.Host.seen c.args.host.now) (g.H.Host.seen c.args.host.now) running (acts _ c.core_outcome-in-Feature.result
+    (rw (c.in-Feature.is, c.core_outcome-in-Feature.ensures, c.next-regs.ensures)
+    (move_acts g.row.M c.args.self.now _ (g.H.Host.seen c.args.host.now) refl refl refl refl refl (λ core. feature_of c.in-Feature.op core c.args.o.p c.args.o.q) c.do_feature-answer.result refl c.do_feature-answer.ensures)))
 
 pub returns-in-InOut : goal.returns-in-InOut
 unfolding action

@@ -1,5 +1,5 @@
 use Rattle.std.proofs.Common.{rules}
-use Rattle.instruction_table.proofs.table.instruction_of.Goals as goal
+use Rattle.instruction_table.proofs.instruction_of.Goals as goal
 
 pub returns : goal.returns
 returns c = search rules
