@@ -29,98 +29,18 @@ use std::alloc::{AllocError, Global};
 /// Does what the words say, over any host, and answers how that ended, with the console of the machine, the statement of a refused source, and
 /// the statement at IR.
 ///
-/// The words are those behind the program's name. `assemble` makes an object deck of a source; `load` runs a deck by the Load key, `run` a
-/// source, `debug` a source under the debugger's commands; `generate` makes a source by two numbers, `trial` runs such a one, and `disk`
-/// places a program on the pack.
+/// The words are those behind the program's name. No unit of the host is in use, and no output has been given a byte.
 ///
-/// All that is done outside is one list, thing by thing, which the words and the inputs give. Without a fault of the host all of it is
-/// done, and the answer is its status. After one exactly a first part of it is done, and the answer is `HostFault`; where memory is lacking
-/// it is `OutOfMemory`, before a machine is powered on. A source that breaks no rule runs as its image says, by the table of instructions.
-/// What follows says each of these in full.
+/// - `told`: all that is done outside is one list, by the words and the inputs; after a fault of the host a first part of it is done. The answer is
+///   that of the job; `HostFault` comes only where a call of the host failed, and `OutOfMemory` before a machine is powered on.
+/// - `bound`: files are bound in the order of units, each to the unit that its option names, and no other.
+/// - `unread`: an input that the command does not read keeps all that it had, and is not asked; and the pack keeps its sectors, where the command
+///   does not work with it.
+/// - `headline`: a source that breaks no rule runs as its image says, by the table of instructions.
+/// - `trial`, `session`: the ways in which a trial ends, and a session.
+/// - `trip`, `disk_trip`: a deck that `assemble` or `disk` punched does, when it is loaded, what its program does.
 ///
-/// No unit of the host is in use, and no output has been given a byte. Plain words are a command and then pairs of an option and a value,
-/// each option at most once and the required ones among them; a value is not empty and does not begin with '-':
-///
-/// - `assemble --source FILE`, and `--object`, `--image`, `--listing`, `--report`, each with a FILE, where they are wanted; `--form self`
-///   or `--form dense`, the form of the object deck, which is `self` where the words give none; and `--core` with `20000`, `40000` or `60000`,
-///   the number of core's positions, which is 20,000 where the words give none;
-/// - `load --deck FILE`, and `--data`, `--keys`, `--script`, `--pack`, `--punched`, `--typed`, `--report`, each with a FILE, `--limit
-///   N`, a number of 1 to 15 decimal digits, which is 1,000,000 where the words give none; and `--core`;
-/// - `run --source FILE`, and any of the other options of `assemble` and `load` but `--deck`;
-/// - `debug --source FILE --commands FILE`, and any of the other options of `run`;
-/// - `generate --statements N --number K`, with N 8 to 1600 and K 0 to 999999, and `--made` and `--report`, each with a FILE;
-/// - `trial --statements N --number K`, and `--report` with a FILE;
-/// - `disk --source FILE --pack FILE`, and `--object`, `--image` and `--report`, each with a FILE, and `--core`.
-///
-/// The files are bound to their units, in the order of units. `assemble` reads the source deck, which has at most 4,000,000 bytes; it
-/// writes the object deck, then the image and then the listing, or reports the first statement that breaks a rule, and what breaks it there.
-/// `load` reads the operator's script; then the Load key reads the first card of Deck, and the machine and the operator take their turns:
-/// the machine reads the other cards of Deck, and then those of Data, and the lines of Keys, and the operator acts where the script says,
-/// until a turn ends the run, by the limit of steps at the latest. What is punched and typed goes to the units Punched and Typed, and the
-/// disk drives read and write the sectors of Pack. `run` reads the script, assembles the source and writes its texts as `assemble` does, and
-/// puts the cards of that deck into the hopper; the Load key is pressed and the deck's steps are made, and from the program's first instruction on the
-/// turns are taken as in `load`, the script and the limit counting from there. `debug` reads the script and the debugger's commands, and
-/// does as `run` up to the Load key; then the commands are carried out one after another, up to `QUIT` or their end, the script and the
-/// limit counting from the Load key, and what they print goes to Report. `generate` writes the source of its two numbers on Made. `trial`
-/// assembles that source and runs it as `run` does, without a script and up to 1,000,000 steps, and adds a line behind the report line where
-/// its status counts steps. `disk` assembles the source and writes the deck that loads the program from disk, then the image, and then the
-/// sectors that the program needs on drive 1 of Pack, one after another. The report line goes to Report, behind all else.
-///
-/// All that the call does outside is one list, thing by thing: a file bound to a unit, a byte written on a unit, a sector written to Pack,
-/// or a card or a line of Keys that a machine takes, in its place among these. The files come first, in the order of units. Then come
-///
-/// - for `assemble`, the bytes of Object, those of Image and those of Listing;
-/// - for `load`, the card that the Load key takes, and then what the machine's steps punch, type and write to Pack, and the cards and the
-///   lines of Keys that they and the operator's Load keys take, turn by turn and within a turn in the order of the table of instructions;
-/// - for `run`, what `assemble` writes, then the cards of the deck, and behind them what the turns from the program's first instruction on
-///   do;
-/// - for `debug`, what `assemble` writes, then the card that the Load key takes, and behind it the lines of the session and what its turns
-///   punch, type, write and take of cards and of Keys, in their order;
-/// - for `generate`, the bytes of Made;
-/// - for `trial`, what `run` does for the source that was made;
-/// - for `disk`, the bytes of Object, those of Image, and the sectors, rising;
-///
-/// and last the bytes of the report line, for `trial` with those of its own line behind them. Where an input is refused, the line that says
-/// so is all that comes behind the bindings, and for words that are not plain it is all that there is.
-///
-/// The answer is the status of that, and all of the list was done; or `HostFault`, only where the host's count of faults rose, and exactly
-/// a first part of the list was done. So texts and sectors are those of one and the same moment: no byte of Image is written before Object
-/// is whole, `disk` writes no sector before both are, and no byte of the report line is written before all that stands in front of it is
-/// done. The cards and the lines of Keys that were taken are those of this very part too, and none was asked for before its turn, but for
-/// one look behind a card at whether a byte is left, which the last-card indicator, 09, shows: the part has none, and Deck, Data and Keys
-/// were not asked; or, with what a reader and a keyboard hold, all cards and lines are left but those of the part, and, where the host tells
-/// how Keys was asked, its last reading found no more, or ended a line that was taken, or what is held does not show the next line whole, or
-/// shows it longer than 80 bytes. Since a host may fail at any call, no line is asked for before all that stands in front of it is done, as
-/// the text that a program types before it reads: `prompt_law` says what that comes to. The status and the list are given by the words and
-/// by what the host tells of the bytes of its files and of the pack's sectors alone, where it tells what the job stands on. Where it does
-/// not tell a script, commands or a source, they are those of some such text; where it does not tell what a machine is fed with, nothing is
-/// said of what the machine does. `run` and `trial` of a source that breaks no rule end in one of six ways: the machine halted, an
-/// instruction stopped it, the limit was reached, it wants cards, it wants a line of the keyboard, or a line of an input jams; `debug` of
-/// such a source ends with the end of its session.
-///
-/// A `load` of the bytes that `assemble` leaves on Object does what the program does from its first instruction on: with the deck's steps
-/// added to the limit and to each `AT` line, and no call of the host failing, it answers where the turns from there end, with those steps
-/// more, and takes the deck's cards and then does outside what they do. So does a `load` of the bytes that `disk` leaves on Object, over a
-/// pack with the sectors that `disk` wrote.
-///
-/// An input that the command does not read keeps all that it had: the bytes of its file, where one is bound to it; and it is not asked. So
-/// does the pack keep its sectors by `assemble` and `generate`, whatever the host tells of the rest. Source, Script and Commands are each
-/// found to have no more once at most, so none of them is asked again behind its end. Where a run or a session comes to its end, what Deck,
-/// Data and Keys have left are, with what a reader and a keyboard hold, the cards and the lines that its machine has still to read: the
-/// reader holds what is left of the cards that were put into it, and at most 4,096 bytes of Deck and of Data each, the keyboard as many of
-/// Keys; and no line, and no card but for that one look, was asked for before its turn.
-///
-/// The console is that of the machine where its last turn leaves it, of a session where it stands, or, after a fault, that of the place on its
-/// way where the machine stands: within the Load key, a step of its deck, a turn or a line of the session, or at its end. The counts of cards and
-/// lines and the bad characters are those of the cards and the lines that were taken. There is none where no machine was powered on. The
-/// refused statement is the one that the source is refused for. The statement at IR is that of the source, by `run`, `debug` and `trial`: the
-/// last one whose instruction stands at IR of the console, where one does. There is none by `load`, and none after a fault of the host.
-///
-/// Or the answer is `OutOfMemory`, for plain words alone: then no more was done than all bindings and a first part of the texts that are
-/// made of a source, with nothing punched, typed or reported, and no sector written; and Deck, Data and Keys were not asked. For plain words
-/// memory may lack before any file is bound, and then nothing at all was done. The units in use are those up to one in the order of units
-/// that the words name a file for, each bound to that very name: all of them, where the answer is no `HostFault`; none, where memory was
-/// lacking for the words.
+/// docs/promises.md says each of these in full under 'The whole program', and docs/formats.md which words are plain.
 pub fn ibm1620_answer<H: Host>(alloc: Global, words: &[String], host: &mut H) -> Answer
     requires { IsFresh (H.seen host.old).world }
     ensures told { Tells (word_bytes words.now) (H.seen host.old) (H.seen host.new) result }
