@@ -1,4 +1,5 @@
 // The words of a command line, with what they were read as.
+// Source: this project's own.
 ghost use Rattle.std.specs.Prelude.{◌≡◌, true, is_some, IfOk, IfErr};
 ghost use Rattle.std.proofs.Props.{props};
 ghost use Rattle.command_line.specs.Given.{MeansJust};
@@ -13,7 +14,6 @@ use std::alloc::{AllocError, Global};
 /// The words of a command line, with what they were read as.
 ///
 /// A job and what is said of it go by one reading.
-/// Source: this project's own.
 #[derive(Clone, Copy)]
 pub struct Read<'a> {
     /// The words, those behind the program's name.
@@ -30,8 +30,6 @@ impl<'a> Read<'a> {
     ghost use Rattle.command_line.specs.Known.{core_of, file_of};
 
     /// Reads the words.
-    ///
-    /// Source: this project's own.
     pub fn of(alloc: Global, words: &'a [String]) -> Read<'a>
         ensures { result.words.now ≡ words.now }
     {
@@ -42,8 +40,6 @@ impl<'a> Read<'a> {
     }
 
     /// The name of the file that the words name for a unit; `None` where they name none, are not plain, or memory was lacking.
-    ///
-    /// Source: this project's own.
     pub fn file(&self, unit: Unit) -> Option<&'a str>
         ensures is { option_copied result ≡ file_of self.now unit }
         ensures named { IfOk self.now.said (λ said. option_copied result ≡ names_of (meaning_of_words self.now.words.now) unit) }
@@ -55,8 +51,6 @@ impl<'a> Read<'a> {
     }
 
     /// The size of core; one module where the words give none, are not plain, or memory was lacking.
-    ///
-    /// Source: this project's own.
     pub fn core(&self) -> CoreSize
         ensures { result ≡ core_of self.now }
     {

@@ -1,4 +1,5 @@
 // A host that counts the cards that are punched to no file.
+// Source: this project's own.
 ghost use Rattle.std.specs.Prelude.{◌≡◌};
 ghost use Rattle.std.specs.Option.{ForSome};
 ghost use Rattle.outside_io.specs.World.{IsFresh};
@@ -9,14 +10,11 @@ use crate::finishing::Finishes;
 use outside_io::{Bound, Drive, Host, Put, SECTOR_LENGTH, Sent, Take, Trouble, Unit};
 
 /// How many bytes a card is punched as: those of its 80 columns, and a line feed.
-///
-/// Source: this project's own.
 pub const CARD_BYTES: u64 = 81;
 
 /// A host that counts the cards that are punched on it while no file is bound to Punched.
 ///
 /// It tells what the host within it tells, and each call goes to that one. Where Punched is bound the count begins anew, and stands.
-/// Source: this project's own.
 #[derive(Drop)]
 pub struct Counting<H: Host> {
     /// The host within.
@@ -30,8 +28,6 @@ pub struct Counting<H: Host> {
 
 impl<H: Host> Counting<H> {
     /// Counts from here on, over a host with no unit in use and no byte written.
-    ///
-    /// Source: this project's own.
     pub fn over(host: H) -> Self
         requires { IsFresh (H.seen host).world }
         ensures { result.host ≡ host }
@@ -44,8 +40,6 @@ impl<H: Host> Counting<H> {
     }
 
     /// How many whole cards were punched to no file.
-    ///
-    /// Source: this project's own.
     pub fn cards(&self) -> u64
         ensures { result ≡ cards_in_bytes self.now.bytes }
     {

@@ -1,4 +1,5 @@
 // A job, with what lies around it.
+// Source: this project's own.
 ghost use Rattle.std.specs.Prelude.{◌≡◌};
 ghost use Rattle.outside_io.specs.World.{IsFresh};
 ghost use Rattle.job_messages.specs.Messages.{message_text};
@@ -15,8 +16,6 @@ use std::alloc::Global;
 use std::fmt::InlineText;
 
 /// How many bytes a message has at most that is said without memory for its text.
-///
-/// Source: this project's own.
 pub const MESSAGE_ROOM: usize = 16_384;
 
 /// Does what the words say over a host, finishes its files, says on `errors` what there is to say of it, and answers the code that the program
@@ -28,7 +27,6 @@ pub const MESSAGE_ROOM: usize = 16_384;
 /// answer's console, statement and refusal, of these words, and of the cards that were punched to no file. Where it is empty nothing is said.
 ///
 /// No unit of the host is in use, and no output has been given a byte.
-/// Source: this project's own.
 pub fn do_job<H: Finishes, S: Sink>(
     alloc: Global,
     words: &[String],
@@ -46,7 +44,6 @@ pub fn do_job<H: Finishes, S: Sink>(
 /// or for what is said of it.
 ///
 /// No unit of the host is in use, and no output has been given a byte.
-/// Source: this project's own.
 pub fn do_read_job<H: Finishes, S: Sink>(
     alloc: Global,
     read: &Read<'_>,

@@ -1,4 +1,5 @@
 // What messages are said on.
+// Source: this project's own.
 ghost use Rattle.std.specs.Prelude.{◌≡◌, ℕ, List, [], Option, Some, None, is_some, IfSome, OnOk};
 ghost use Rattle.finished_job.specs.Pieces.{Says};
 
@@ -6,8 +7,6 @@ use std::alloc::{AllocError, Global};
 use std::io::Write;
 
 /// What messages are said on, as the standard error.
-///
-/// Source: this project's own.
 pub trait Sink {
     /// The pieces that were said, one behind another, where it tells them.
     ghost said: { Self → Option (List (List ℕ)) };
@@ -18,8 +17,6 @@ pub trait Sink {
 }
 
 /// A writer as a sink, such as the standard error of the system. It tells nothing.
-///
-/// Source: this project's own.
 #[derive(Drop)]
 pub struct OnErrors<W> {
     writer: W,
@@ -27,8 +24,6 @@ pub struct OnErrors<W> {
 
 impl<W> OnErrors<W> {
     /// A sink that writes each piece to this writer.
-    ///
-    /// Source: this project's own.
     pub fn new(writer: W) -> Self {
         OnErrors { writer }
     }
@@ -42,9 +37,7 @@ impl<W: Write> Sink for OnErrors<W> {
     }
 }
 
-/// A sink in memory. It tells the pieces that were said, until memory for one is wanting; from then on it tells nothing.
-///
-/// Source: this project's own, for tests.
+/// A sink in memory, for tests. It tells the pieces that were said, until memory for one is wanting; from then on it tells nothing.
 #[derive(Drop)]
 pub struct Said {
     alloc: Global,
@@ -56,8 +49,6 @@ impl Said {
     ghost use Rattle.finished_job.specs.Said.{bytes_of_pieces, said_pieces};
 
     /// A sink on which nothing was said.
-    ///
-    /// Source: this project's own.
     pub fn new(alloc: Global) -> Self
         ensures { said_pieces result ≡ Some [] }
     {
@@ -69,8 +60,6 @@ impl Said {
     }
 
     /// Whether it still tells what was said.
-    ///
-    /// Source: this project's own.
     pub fn tells(&self) -> bool
         ensures { result ≡ is_some (said_pieces self.now) }
     {
@@ -78,8 +67,6 @@ impl Said {
     }
 
     /// The pieces that were said, where it still tells them.
-    ///
-    /// Source: this project's own.
     pub fn pieces(&self) -> &[Vec<u8>]
         ensures { IfSome (said_pieces self.now) (λ pieces. bytes_of_pieces result.now ≡ pieces) }
     {

@@ -1,4 +1,5 @@
 // What a job says on the standard error, by how it ended.
+// Source: this project's own.
 ghost use Rattle.std.specs.Prelude.{◌≡◌, Some, option_copied};
 ghost use Rattle.job_messages.specs.Messages.{TellsBad, bad_or_none, confused_text, console_shown, says_nothing, shown_text, stands_still};
 
@@ -16,8 +17,6 @@ use read_checks::Tally;
 use std::fmt;
 
 /// How a job ended, and what is told of it.
-///
-/// Source: this project's own.
 #[derive(Clone, Copy)]
 pub struct Ending<'a> {
     /// How it ended, its files finished.
@@ -35,7 +34,6 @@ pub struct Ending<'a> {
 /// The message of a job: what happened, what to do next, and what is told of its machine.
 ///
 /// It is empty where the machine halted, the source was assembled or made, or the session ended, and nothing is told.
-/// Source: this project's own.
 #[derive(Clone, Copy)]
 pub struct Message<'a> {
     // What happened, and what to do next.
@@ -56,8 +54,6 @@ impl<'a> Message<'a> {
     ghost use Rattle.ibm1620_cli.specs.Job.{word_bytes};
 
     /// What is said of a job that ended so, by its words as they were read.
-    ///
-    /// Source: this project's own.
     pub fn of(ending: Ending<'a>, read: &'a Read<'a>) -> Message<'a>
         ensures { IsMessageOf ending.entry (word_bytes read.now.words.now) result }
     {
@@ -97,8 +93,6 @@ impl<'a> Message<'a> {
     }
 
     /// Whether nothing is said.
-    ///
-    /// Source: this project's own.
     pub fn is_empty(&self) -> bool
         ensures { result ≡ is_empty self.now }
     {

@@ -1,4 +1,5 @@
 // Texts that others wrote, as they are shown: no control character of theirs gets to a terminal.
+// Source: this project's own.
 ghost use Rattle.std.specs.Prelude.{◌≡◌, ◌≤◌, Some};
 ghost use Rattle.std.specs.Fmt.{WritesOnOk};
 ghost use Rattle.message_hints.specs.Columns.{cell_width};
@@ -7,8 +8,6 @@ ghost use Rattle.message_hints.specs.Escapes.{cell_text, cells_text, escape_text
 use std::fmt;
 
 /// A text that others wrote, as a name of a file: its control characters as `\x1b`, all else as it is.
-///
-/// Source: this project's own.
 #[derive(Clone, Copy)]
 pub struct Escaped<'a>(pub &'a str);
 
@@ -51,7 +50,6 @@ impl fmt::Display for Escape {
 /// A byte in a column of a line: a character of ASCII that prints as it is, any other as `\x1b`.
 ///
 /// To the assembler a letter with an accent is two bytes in two columns, and so it is shown.
-/// Source: this project's own.
 #[derive(Clone, Copy)]
 pub struct Cell(pub u8);
 
@@ -86,8 +84,6 @@ impl fmt::Display for Cell {
 }
 
 /// The bytes of a line, column by column.
-///
-/// Source: this project's own.
 #[derive(Clone, Copy)]
 pub struct Cells<'s>(pub &'s [u8]);
 

@@ -1,4 +1,5 @@
 // A deck that is given as a source, and a source that is given as a deck.
+// Source: this project's own.
 ghost use Rattle.std.specs.Prelude.{Some};
 ghost use Rattle.message_hints.specs.Mistakes.{confusion_text};
 
@@ -19,8 +20,6 @@ const FEWEST_DIGITS: usize = 8;
 const INSTRUCTION: Columns = Columns { first: 1, last: 12 };
 
 /// What a file looks like that is given as the other.
-///
-/// Source: this project's own.
 #[derive(Clone, Copy)]
 pub enum Mistaken {
     /// A deck, given as a source.
@@ -46,8 +45,6 @@ fn is_digit(byte: u8) -> bool {
 }
 
 /// A machine that stopped behind the Load key.
-///
-/// Source: this project's own.
 #[derive(Clone, Copy)]
 pub struct Stopped {
     /// The address of the instruction that stopped it.
@@ -139,8 +136,6 @@ fn is_page(cells: &[u8]) -> bool {
 }
 
 /// What is said where a source or a deck looks like the other.
-///
-/// Source: this project's own.
 #[derive(Clone, Copy)]
 pub struct Confusion<'w> {
     /// What it looks like.
@@ -153,7 +148,6 @@ impl<'w> Confusion<'w> {
     /// What is said of a source of this file that was refused so; none where it does not look like a deck.
     ///
     /// It looks like one where one of its first three statements is refused that has digits in the columns of an instruction, and no operation.
-    /// Source: this project's own.
     pub fn of_source(file: &'w str, refused: &RefusedLine) -> Option<Confusion<'w>> {
         if !is_deck(refused) {
             return None;
@@ -168,7 +162,6 @@ impl<'w> Confusion<'w> {
     ///
     /// It looks like one where the first instruction stopped the machine, and what stands there is a comment, or the beginning of a statement:
     /// blanks or numbers of page and line, blanks or a label, and the first letter of an operation.
-    /// Source: this project's own.
     pub fn of_deck(file: &'w str, stopped: &Stopped) -> Option<Confusion<'w>> {
         if !stopped.is_by_source() {
             return None;

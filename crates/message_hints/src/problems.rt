@@ -1,4 +1,5 @@
 // Which word of a command line does not fit, and why, as it is told.
+// Source: this project's own.
 ghost use Rattle.std.specs.Prelude.{Some};
 ghost use Rattle.message_hints.specs.Problems.{fit_text, misuse_text, problem_text, standard_text, taker_text, takers_text};
 
@@ -9,8 +10,6 @@ use command_line::Command;
 use std::fmt;
 
 /// The first word of a command line that does not fit, and why, with how the command is used.
-///
-/// Source: this project's own.
 #[derive(Clone, Copy)]
 pub enum Misuse<'w> {
     /// There is no word at all.
@@ -50,8 +49,6 @@ impl fmt::Display for Misuse<'_> {
 }
 
 /// What does not fit behind a command.
-///
-/// Source: this project's own.
 #[derive(Clone, Copy)]
 pub struct Problem<'w> {
     // The command.

@@ -1,12 +1,11 @@
 // How far a statement stands off.
+// Source: this project's own.
 ghost use Rattle.std.specs.Prelude.{Some};
 ghost use Rattle.message_hints.specs.Places.{off_text, plural_text, shift_text, way_text};
 
 use std::fmt;
 
 /// Which way something stands off.
-///
-/// Source: this project's own.
 #[derive(Clone, Copy)]
 pub enum Way {
     /// To the left.
@@ -27,8 +26,6 @@ impl fmt::Display for Way {
 }
 
 /// How far a statement stands off.
-///
-/// Source: this project's own.
 #[derive(Clone, Copy)]
 pub struct Shift {
     /// By how many columns.

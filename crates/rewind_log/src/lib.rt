@@ -2,6 +2,8 @@
 //!
 //! A place is what stands within the machine: core, registers, panel, arms and mode, with the count of steps. What stands outside, the cards,
 //! the keyboard's lines, the texts and the sectors, is not kept and never goes back.
+//!
+//! Source: this project's own.
 #![tactic(auto)]
 
 ghost use Rattle.std.specs.Prelude.{◌≡◌, [], ◌<◌, ◌≤◌, ◌*◌, ◌+◌, All, IfOk, length, slice_get, Some, IfSome};
@@ -21,8 +23,6 @@ use std::marker::Model;
 use std::vec::Vec;
 
 /// How many places are kept: the furthest, and a thousand before it.
-///
-/// Source: this project's own.
 pub const PLACES: usize = 1_001;
 
 // A kept place. Its core is that of the place behind it, with the words from number `from` on that are below number `to` as `old` has them;
@@ -40,8 +40,6 @@ struct LogEntry<const M: u32> {
 }
 
 /// The last places of a run, at most 1,001.
-///
-/// Source: this project's own.
 #[derive(Drop)]
 pub struct Rewind<const M: u32> {
     // The newest comes first.
@@ -69,7 +67,6 @@ impl<const M: u32> Rewind<M> {
     ///
     /// `M` is 1, 2 or 3. It takes about 16,000,000 bytes for each unit of `M`, which are reserved, and touched as places are kept; no other call
     /// takes memory. The error is want of memory.
-    /// Source: this project's own.
     pub fn new(alloc: Global) -> Result<Self, AllocError>
         requires { IsSize M }
         ensures { IfOk result (λ r. r ≡ []) }
@@ -86,8 +83,6 @@ impl<const M: u32> Rewind<M> {
     }
 
     /// How many places are kept, at most 1,001.
-    ///
-    /// Source: this project's own.
     pub fn len(&self) -> u32
         ensures len { result ≡ length self.now }
         ensures most { result ≤ most_places }
@@ -98,7 +93,6 @@ impl<const M: u32> Rewind<M> {
     /// The count of steps of the place number `i`, of which the oldest is number 0.
     ///
     /// `i` is below the number of kept places.
-    /// Source: this project's own.
     pub fn count_at(&self, i: u32) -> u64
         requires { i < length self.now }
         ensures { IfSome (slice_get self.now i) (λ k. result ≡ k.steps) }
@@ -109,7 +103,6 @@ impl<const M: u32> Rewind<M> {
     /// The registers of the place number `i`, of which the oldest is number 0.
     ///
     /// `i` is below the number of kept places.
-    /// Source: this project's own.
     pub fn regs_at(&self, i: u32) -> Regs
         requires { i < length self.now }
         ensures { IfSome (slice_get self.now i) (λ k. result ≡ k.regs) }
@@ -120,7 +113,6 @@ impl<const M: u32> Rewind<M> {
     /// The mode of the place number `i`, of which the oldest is number 0.
     ///
     /// `i` is below the number of kept places.
-    /// Source: this project's own.
     pub fn mode_at(&self, i: u32) -> Mode
         requires { i < length self.now }
         ensures { IfSome (slice_get self.now i) (λ k. result ≡ k.mode) }
@@ -143,7 +135,6 @@ impl<const M: u32> Rewind<M> {
     ///
     /// Where 1,001 places were kept, the oldest is dropped; all others stay. Core is compared with that of the place before, and the words
     /// that differ are copied.
-    /// Source: this project's own.
     pub fn keep(&mut self, machine: &Machine<M>, steps: u64)
         ensures { self.new ≡ places_with self.old (place_of_machine M machine.now steps) }
     {
@@ -163,7 +154,6 @@ impl<const M: u32> Rewind<M> {
     /// alone are copied.
     ///
     /// A place is kept. `from` is no more than `to`, and `to` no more than the number of words.
-    /// Source: this project's own.
     pub fn keep_within(&mut self, machine: &Machine<M>, steps: u64, from: u32, to: u32)
         requires some { 0 < length self.old }
         requires order { from ≤ to }
@@ -186,7 +176,6 @@ impl<const M: u32> Rewind<M> {
     /// place. Its hopper and its keyboard stay as they are.
     ///
     /// `i` is below the number of kept places.
-    /// Source: this project's own.
     pub fn restore(&self, i: u32, machine: &mut Machine<M>)
         requires { i < length self.now }
         ensures { IfSome (slice_get self.now i) (λ k. machine.new ≡ machine_at M k machine.old) }
