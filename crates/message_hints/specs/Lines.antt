@@ -6,8 +6,8 @@ use Rattle.message_hints.specs.declared.line_hints.LineHint.TheVariants.{Byte, W
 use Rattle.message_hints.specs.declared.line_hints.TheConstants.{CHARACTERS}
 use Rattle.message_hints.specs.Escapes.{cell_text}
 
--- a byte that is no character of the assembler, in a column: a tab, a small letter, a bar or another one. The code's text `CHARACTERS` says which there
--- are, as `is_allowed` of `sps_scan` does.
+-- a byte that is no character of the assembler, in a column: a tab, a small letter, a bar or another one. The code's text `CHARACTERS` names
+-- the assembler's characters. They are those of `is_allowed` of `sps_scan`; that the text names these and no others, no clause says.
 abbrev pub byte_text : ℕ → ℕ → List ℕ
 byte_text byte column =
     if byte == 9

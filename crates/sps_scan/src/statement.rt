@@ -15,7 +15,8 @@ pub enum Shape {
     Blank,
     /// The line has over 80 bytes.
     Long,
-    /// A byte of columns 6 to 15 or of an operand part is no character of the assembler: one that has a pair of digits, but for `]`, `}` and `|`.
+    /// A byte of columns 6 to 15 or of an operand part is no character of the assembler. The assembler's characters are those that have a pair
+    /// of digits on cards, without `]`, `}` and `|`.
     BadColumn,
     /// Any other line: a statement with an operation.
     Plain,
