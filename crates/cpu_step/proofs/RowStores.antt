@@ -156,30 +156,30 @@ compare_row o s inside second odd a out = comparison_keeps s (comparison s.core 
 
 -- what moves digits or changes a flag
 abbrev move_column : MoveOp → MayStore
-move_column moves.Digit = column.Cell
-move_column moves.Field = column.Down
-move_column moves.Record = column.Up
-move_column moves.SetFlag = column.Cell
-move_column moves.ClearFlag = column.Cell
+move_column moves.Td = column.Cell
+move_column moves.Tf = column.Down
+move_column moves.Tr = column.Up
+move_column moves.Sf = column.Cell
+move_column moves.Cf = column.Cell
 
 move_row : (m : MoveOp) → RowKeeps (move_column m) (row.Move m)
 unfolding action
-move_row moves.Digit o s inside second odd = move_keeps (kinds.Cell o.p) s (copy_digit s.core o.p o.q) (λ a other. one_cell s.core o.p (λ d. d) (read_at s.core o.q) a other)
-move_row moves.Field o s inside second odd = move_keeps (kinds.Down o.p) s (move_field s.core o.p o.q) (within_down s.core _ o.p (move_sinks s.core o.p o.q inside))
-move_row moves.Record o s inside second odd = move_keeps (kinds.Up o.p) s (move_record s.core o.p o.q) (within_up s.core _ o.p (record_rises s.core o.p o.q inside))
-move_row moves.SetFlag o s inside second odd = move_keeps (kinds.Cell o.p) s (set_flag s.core o.p) (λ a other. one_cell s.core o.p (with_flag true) (read_at s.core o.p) a other)
-move_row moves.ClearFlag o s inside second odd = move_keeps (kinds.Cell o.p) s (clear_flag s.core o.p) (λ a other. one_cell s.core o.p (with_flag false) (read_at s.core o.p) a other)
+move_row moves.Td o s inside second odd = move_keeps (kinds.Cell o.p) s (copy_digit s.core o.p o.q) (λ a other. one_cell s.core o.p (λ d. d) (read_at s.core o.q) a other)
+move_row moves.Tf o s inside second odd = move_keeps (kinds.Down o.p) s (move_field s.core o.p o.q) (within_down s.core _ o.p (move_sinks s.core o.p o.q inside))
+move_row moves.Tr o s inside second odd = move_keeps (kinds.Up o.p) s (move_record s.core o.p o.q) (within_up s.core _ o.p (record_rises s.core o.p o.q inside))
+move_row moves.Sf o s inside second odd = move_keeps (kinds.Cell o.p) s (set_flag s.core o.p) (λ a other. one_cell s.core o.p (with_flag true) (read_at s.core o.p) a other)
+move_row moves.Cf o s inside second odd = move_keeps (kinds.Cell o.p) s (clear_flag s.core o.p) (λ a other. one_cell s.core o.p (with_flag false) (read_at s.core o.p) a other)
 
 -- the special features
 abbrev feature_column : FeatureOp → MayStore
-feature_column features.Strip = column.DownFromQ
-feature_column features.Fill = column.Down
+feature_column features.Tns = column.DownFromQ
+feature_column features.Tnf = column.Down
 feature_column f = column.Anywhere
 
 feature_row : (f : FeatureOp) → RowKeeps (feature_column f) (row.Feature f)
 unfolding action
-feature_row features.Strip o s inside second odd = move_keeps (kinds.Down o.q) s (strip s.core o.p o.q) (within_down s.core _ o.q (strip_sinks s.core o.p o.q second))
-feature_row features.Fill o s inside second odd = move_keeps (kinds.Down o.p) s (fill s.core o.p o.q) (within_down s.core _ o.p (fill_sinks s.core o.p o.q inside (odd refl)))
+feature_row features.Tns o s inside second odd = move_keeps (kinds.Down o.q) s (strip s.core o.p o.q) (within_down s.core _ o.q (strip_sinks s.core o.p o.q second))
+feature_row features.Tnf o s inside second odd = move_keeps (kinds.Down o.p) s (fill s.core o.p o.q) (within_down s.core _ o.p (fill_sinks s.core o.p o.q inside (odd refl)))
 feature_row f o s inside second odd = λ a out. absurd out
 
 -- the typewriter and its keyboard

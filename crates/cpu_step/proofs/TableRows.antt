@@ -180,11 +180,15 @@ stores_tested : (m : MayStore) (b : BranchOp) (code : ℕ) → stores_told m (ro
 stores_tested column.ByDevice b code = refl
 stores_tested m b code = refl
 
+b_tested : (b : BranchOp) (code : ℕ) → is_b (row.Branch b 0) ≡ is_b (row.Branch b code)
+b_tested B code = refl
+b_tested b code = refl
+
 module _ (i : InstructionRow) (d : Instr) where
   branch_fits : (b : BranchOp) → row_fits i (row.Branch b 0) ≡ true → Fitting i (branch_row b d)
   branch_fits b e =
       fitting i (row.Branch b (tested_code d))
-      (rw (← uses_tested (uses_of i) b (tested_code d), ← stores_tested (stores_of i) b (tested_code d)) e)
+      (rw (← uses_tested (uses_of i) b (tested_code d), ← stores_tested (stores_of i) b (tested_code d), ← b_tested b (tested_code d)) e)
 
   row_fitting : (o : Op) → all_fit i (rows_of o) ≡ true → Fitting i (row_of_op o d)
   row_fitting op.A e = (all_fitting i (rows_of op.A) e).0

@@ -5,7 +5,7 @@ use Rattle.addr_indirect.specs.declared.Stop.{Stop}
 use Rattle.addr_indirect.specs.declared.Stop.TheVariants.{Address}
 use Rattle.addr_indirect.specs.Reading.{read_at}
 use Rattle.instruction_table.specs.declared.FeatureOp.{FeatureOp}
-use Rattle.instruction_table.specs.declared.FeatureOp.TheVariants.{MoveFlag, Strip, Fill}
+use Rattle.instruction_table.specs.declared.FeatureOp.TheVariants.{Mf, Tns, Tnf}
 use Rattle.traces.specs.Trace.{Trace, ends, ◌>>=◌}
 use Rattle.traces.specs.Stored.{Stored, stores}
 use Rattle.feature_ops.specs.declared.TheConstants.{NUMBER_ZONE, NEGATIVE_ZONE}
@@ -63,12 +63,12 @@ fill core p q = do
 
 -- what each operation of the special features does over its operands
 abbrev pub feature_of : FeatureOp → List ℕ → ℕ → ℕ → Trace Stored ⊤ Stop
-feature_of MoveFlag core p q = move_flag core p q
-feature_of Strip core p q = strip core p q
-feature_of Fill core p q = fill core p q
+feature_of Mf core p q = move_flag core p q
+feature_of Tns core p q = strip core p q
+feature_of Tnf core p q = fill core p q
 
 -- P's units are those of a pair: it is odd
 abbrev pub takes_pairs : FeatureOp → Bool
-takes_pairs MoveFlag = false
-takes_pairs Strip = true
-takes_pairs Fill = true
+takes_pairs Mf = false
+takes_pairs Tns = true
+takes_pairs Tnf = true

@@ -45,9 +45,9 @@ pub fn do_feature<const M: u32>(
     ensures { Did core.old (feature_of op core.old p q) core.new result }
 {
     match op {
-        FeatureOp::MoveFlag => move_flag(core, p, q),
-        FeatureOp::Strip => strip(core, p, q),
-        FeatureOp::Fill => fill(core, p, q),
+        FeatureOp::Mf => move_flag(core, p, q),
+        FeatureOp::Tns => strip(core, p, q),
+        FeatureOp::Tnf => fill(core, p, q),
     }
 }
 

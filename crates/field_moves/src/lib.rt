@@ -30,11 +30,11 @@ pub fn make_move<const M: u32>(core: &mut Core<M>, op: MoveOp, p: u32, q: u32) -
     ensures { Did core.old (move_of op core.old p q) core.new result }
 {
     match op {
-        MoveOp::Digit => td(core, p, q),
-        MoveOp::Field => tf(core, p, q),
-        MoveOp::Record => tr(core, p, q),
-        MoveOp::SetFlag => sf(core, p),
-        MoveOp::ClearFlag => cf(core, p),
+        MoveOp::Td => td(core, p, q),
+        MoveOp::Tf => tf(core, p, q),
+        MoveOp::Tr => tr(core, p, q),
+        MoveOp::Sf => sf(core, p),
+        MoveOp::Cf => cf(core, p),
     }
 }
 

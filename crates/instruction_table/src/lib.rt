@@ -6,12 +6,16 @@
 ghost use Rattle.std.specs.Prelude.{◌≡◌, map};
 ghost use Rattle.instruction_table.specs.Table.{instruction_of, row_in, codes_once, mnemonics_once, codes_with_a_field_in_q, flagged_by_the_assembler};
 
+use crate::BranchOp::{B, Bb, Bd, Bi, Bnf, Bng, Bni, Bnr, Bt};
+use crate::FeatureOp::{Mf, Tnf, Tns};
 use crate::MayStore::{Anywhere, ByDevice, Cell, Down, DownBelow, DownFromQ, Nothing, Up};
+use crate::MoveOp::{Cf, Sf, Td, Tf, Tr};
+use crate::Op::{Branch, Feature, Move};
 use crate::OperandUse::{
     Both, Digit, Field, First, FirstByDevice, Indicator, Neither, OddBoth, OddFirst,
 };
 
-/// The operations of the machine. Instructions that do the same over a second operand that stands elsewhere, as A and AM, have one operation:
+/// The operations of the machine, each by its mnemonic. Instructions that do the same over a second operand that stands elsewhere, as A and AM, have one operation:
 /// where the operand stands, their column says.
 ///
 /// Source: CPU manual, operation codes.
@@ -53,15 +57,15 @@ pub enum Op {
 #[derive(Clone, Copy, Debug, PartialEq, Eq)]
 pub enum MoveOp {
     /// Transmit digit: the digit at Q is copied to P.
-    Digit,
+    Td,
     /// Transmit field: the field at Q is copied to P.
-    Field,
+    Tf,
     /// Transmit record: the record at Q is copied to P.
-    Record,
+    Tr,
     /// Set flag: the digit at P gets a flag.
-    SetFlag,
+    Sf,
     /// Clear flag: the digit at P loses its flag.
-    ClearFlag,
+    Cf,
 }
 
 /// The operations of the special features.
@@ -70,11 +74,11 @@ pub enum MoveOp {
 #[derive(Clone, Copy, Debug, PartialEq, Eq)]
 pub enum FeatureOp {
     /// Move flag: the flag of the digit at Q moves to P.
-    MoveFlag,
+    Mf,
     /// Transmit numerical strip: the pairs at P come to the field at Q without their zones.
-    Strip,
+    Tns,
     /// Transmit numerical fill: the field at Q comes to the pairs at P.
-    Fill,
+    Tnf,
 }
 
 /// The branches.
@@ -167,39 +171,15 @@ pub static INSTRUCTIONS: [(&str, InstructionRow); 34] = [
     ("SM", InstructionRow(12, Op::S, Field, Down)),
     ("C", InstructionRow(24, Op::C, Both, Nothing)),
     ("CM", InstructionRow(14, Op::C, Field, Nothing)),
-    (
-        "TD",
-        InstructionRow(25, Op::Move(MoveOp::Digit), Both, Cell),
-    ),
-    (
-        "TDM",
-        InstructionRow(15, Op::Move(MoveOp::Digit), Digit, Cell),
-    ),
-    (
-        "TF",
-        InstructionRow(26, Op::Move(MoveOp::Field), Both, Down),
-    ),
-    (
-        "TFM",
-        InstructionRow(16, Op::Move(MoveOp::Field), Field, Down),
-    ),
-    (
-        "BT",
-        InstructionRow(27, Op::Branch(BranchOp::Bt), Both, DownBelow),
-    ),
-    (
-        "BTM",
-        InstructionRow(17, Op::Branch(BranchOp::Bt), Field, DownBelow),
-    ),
-    ("TR", InstructionRow(31, Op::Move(MoveOp::Record), Both, Up)),
-    (
-        "SF",
-        InstructionRow(32, Op::Move(MoveOp::SetFlag), First, Cell),
-    ),
-    (
-        "CF",
-        InstructionRow(33, Op::Move(MoveOp::ClearFlag), First, Cell),
-    ),
+    ("TD", InstructionRow(25, Move(Td), Both, Cell)),
+    ("TDM", InstructionRow(15, Move(Td), Digit, Cell)),
+    ("TF", InstructionRow(26, Move(Tf), Both, Down)),
+    ("TFM", InstructionRow(16, Move(Tf), Field, Down)),
+    ("BT", InstructionRow(27, Branch(Bt), Both, DownBelow)),
+    ("BTM", InstructionRow(17, Branch(Bt), Field, DownBelow)),
+    ("TR", InstructionRow(31, Move(Tr), Both, Up)),
+    ("SF", InstructionRow(32, Move(Sf), First, Cell)),
+    ("CF", InstructionRow(33, Move(Cf), First, Cell)),
     ("K", InstructionRow(34, Op::K, FirstByDevice, ByDevice)),
     ("DN", InstructionRow(35, Op::Dn, First, Nothing)),
     ("RN", InstructionRow(36, Op::Rn, First, Anywhere)),
@@ -207,51 +187,18 @@ pub static INSTRUCTIONS: [(&str, InstructionRow); 34] = [
     ("WN", InstructionRow(38, Op::Wn, First, ByDevice)),
     ("WA", InstructionRow(39, Op::Wa, OddFirst, Nothing)),
     ("NOP", InstructionRow(41, Op::Nop, Neither, Nothing)),
-    (
-        "BB",
-        InstructionRow(42, Op::Branch(BranchOp::Bb), Neither, Nothing),
-    ),
-    (
-        "BD",
-        InstructionRow(43, Op::Branch(BranchOp::Bd), Both, Nothing),
-    ),
-    (
-        "BNF",
-        InstructionRow(44, Op::Branch(BranchOp::Bnf), Both, Nothing),
-    ),
-    (
-        "BNR",
-        InstructionRow(45, Op::Branch(BranchOp::Bnr), Both, Nothing),
-    ),
-    (
-        "BNG",
-        InstructionRow(55, Op::Branch(BranchOp::Bng), Both, Nothing),
-    ),
-    (
-        "BI",
-        InstructionRow(46, Op::Branch(BranchOp::Bi), Indicator, Nothing),
-    ),
-    (
-        "BNI",
-        InstructionRow(47, Op::Branch(BranchOp::Bni), Indicator, Nothing),
-    ),
+    ("BB", InstructionRow(42, Branch(Bb), Neither, Nothing)),
+    ("BD", InstructionRow(43, Branch(Bd), Both, Nothing)),
+    ("BNF", InstructionRow(44, Branch(Bnf), Both, Nothing)),
+    ("BNR", InstructionRow(45, Branch(Bnr), Both, Nothing)),
+    ("BNG", InstructionRow(55, Branch(Bng), Both, Nothing)),
+    ("BI", InstructionRow(46, Branch(Bi), Indicator, Nothing)),
+    ("BNI", InstructionRow(47, Branch(Bni), Indicator, Nothing)),
     ("H", InstructionRow(48, Op::H, Neither, Nothing)),
-    (
-        "B",
-        InstructionRow(49, Op::Branch(BranchOp::B), First, Nothing),
-    ),
-    (
-        "MF",
-        InstructionRow(71, Op::Feature(FeatureOp::MoveFlag), Both, Anywhere),
-    ),
-    (
-        "TNS",
-        InstructionRow(72, Op::Feature(FeatureOp::Strip), OddBoth, DownFromQ),
-    ),
-    (
-        "TNF",
-        InstructionRow(73, Op::Feature(FeatureOp::Fill), OddBoth, Down),
-    ),
+    ("B", InstructionRow(49, Branch(B), First, Nothing)),
+    ("MF", InstructionRow(71, Feature(Mf), Both, Anywhere)),
+    ("TNS", InstructionRow(72, Feature(Tns), OddBoth, DownFromQ)),
+    ("TNF", InstructionRow(73, Feature(Tnf), OddBoth, Down)),
 ];
 
 /// The row of an operation code, or `None` where the table has no such code.
