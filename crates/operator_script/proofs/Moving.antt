@@ -3,6 +3,7 @@ use Rattle.std.proofs.Common.{◌≡◌, ℕ, ◌+◌, ◌≤◌, true, false, d
 use Rattle.std.proofs.lemmas.Bool.{true≢false}
 use Rattle.std.specs.Prelude.{Some, None}
 use Rattle.outside_io.specs.World.{Seen}
+use Rattle.cpu_step.specs.declared.machine.Machine.{Machine}
 use Rattle.cpu_step.specs.declared.machine.Mode.{Mode}
 use Rattle.cpu_step.specs.declared.machine.Mode.TheVariants as mode
 use Rattle.cpu_step.specs.State.{State}
@@ -14,12 +15,11 @@ use Rattle.cpu_step.proofs.Exact.{Sound}
 use Rattle.operator_script.specs.declared.script.Action.{Action}
 use Rattle.operator_script.specs.declared.turns.Ending.{Ending}
 use Rattle.operator_script.specs.declared.turns.Ending.TheVariants as ending
-use Rattle.operator_script.specs.declared.turns.ActionEnd.{ActionEnd}
-use Rattle.operator_script.specs.declared.turns.ActionEnd.TheVariants as did
+use Rattle.operator_script.specs.declared.turns.TurnEnd.{TurnEnd}
 use Rattle.operator_script.specs.declared.turns.TurnEnd.TheVariants as end
 use Rattle.operator_script.specs.Scripts.{lines_left}
 use Rattle.operator_script.specs.Turn.{RunPlace, Acted, Ended, turn, state_after_action, place_after_action, place_after_step, can_go, due_action, ending_at, in_step, in_load}
-use Rattle.operator_script.specs.Run.{RunState, StandsAt, moment_at, Rests, BreaksLoad, Turns, Acts, end_of_action}
+use Rattle.operator_script.specs.Run.{RunState, StandsAt, moment_at, Rests, BreaksLoad, Turns, StepsBy, Acts}
 use Rattle.operator_script.proofs.Turning.{turn_acts, turn_steps, turn_full, turn_still, turn_over, room_for_one, counts_same, counts_differ}
 
 no_fail : (m : Mode) (ir : ℕ) → is_faulted m ≡ false → ending.Failed ≡ ending_at m ir → ⊥
@@ -171,12 +171,15 @@ module _ (m limit : ℕ) (old : RunState m) (before : Seen) where
           }
 
       -- the front line acts
-      pub acts_turn : (r : ActionEnd) → new.steps ≡ old.steps → lines_left new.script ≡ drop 1 (lines_left old.script) → Acts m a old.machine new.machine before after r
-          → Turns m limit (moment_at m old before) (moment_at m new after) (end_of_action r)
-      acts_turn did.Acted steps script acts = moves_acted steps script acts.0 acts.1
-      acts_turn did.Failed steps script acts = breaks_acted steps script acts
+      pub acts_turn : (r : TurnEnd) → new.steps ≡ old.steps → lines_left new.script ≡ drop 1 (lines_left old.script) → Acts m a old.machine new.machine before after r
+          → Turns m limit (moment_at m old before) (moment_at m new after) r
+      acts_turn end.Acted steps script acts = moves_acted steps script acts.0 acts.1
+      acts_turn end.Stepped steps script acts = absurd acts
+      acts_turn (end.Ended ending.Failed) steps script acts = breaks_acted steps script acts
+      acts_turn (end.Ended how) steps script acts = absurd acts
 
--- what an action came to, said of its ending
-pub turned_as : (m limit : ℕ) (old new : RunState m) (before after : Seen) (r s : ActionEnd) → r ≡ s → Turns m limit (moment_at m old before) (moment_at m new after) (end_of_action r)
-    → Turns m limit (moment_at m old before) (moment_at m new after) (end_of_action s)
-turned_as m limit old new before after r s is turned = subst (λ x. Turns m limit (moment_at m old before) (moment_at m new after) (end_of_action x)) is turned
+-- no action is a step
+pub acts_stepped : (m : ℕ) (a : Action) (old new : Machine m) (before after : Seen) (r : TurnEnd) → Acts m a old new before after r → StepsBy m r old new before after
+acts_stepped m a old new before after end.Acted acts = tt
+acts_stepped m a old new before after end.Stepped acts = absurd acts
+acts_stepped m a old new before after (end.Ended how) acts = tt

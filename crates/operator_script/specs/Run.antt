@@ -16,8 +16,6 @@ use Rattle.operator_script.specs.declared.script.Script.{Script}
 use Rattle.operator_script.specs.declared.runs.Run.{Run}
 use Rattle.operator_script.specs.declared.runs.StepEnd.{StepEnd}
 use Rattle.operator_script.specs.declared.runs.StepEnd.TheVariants as stepped
-use Rattle.operator_script.specs.declared.turns.ActionEnd.{ActionEnd}
-use Rattle.operator_script.specs.declared.turns.ActionEnd.TheVariants as did
 use Rattle.operator_script.specs.declared.turns.Ending.{Ending}
 use Rattle.operator_script.specs.declared.turns.Ending.TheVariants as ending
 use Rattle.operator_script.specs.declared.turns.TurnEnd.{TurnEnd}
@@ -209,12 +207,9 @@ pub record BreaksLoad (m : ℕ) (what : Action) (old new : Machine m) (before af
   pub is : what ≡ action.Load
   pub breaks : Breaks m load_cut old new before after
 
-abbrev pub Acts : (m : ℕ) → Action → Machine m → Machine m → Seen → Seen → ActionEnd → Type 0
-Acts m what old new before after did.Acted =
+abbrev pub Acts : (m : ℕ) → Action → Machine m → Machine m → Seen → Seen → TurnEnd → Type 0
+Acts m what old new before after end.Acted =
     Makes m (run.state_after_action what) old new before after × (is_faulted new.mode ≡ false)
-Acts m what old new before after did.Failed = BreaksLoad m what old new before after
-
--- what a turn was in which the operator acted
-abbrev pub end_of_action : ActionEnd → TurnEnd
-end_of_action did.Acted = end.Acted
-end_of_action did.Failed = end.Ended ending.Failed
+Acts m what old new before after end.Stepped = ⊥
+Acts m what old new before after (end.Ended ending.Failed) = BreaksLoad m what old new before after
+Acts m what old new before after (end.Ended how) = ⊥

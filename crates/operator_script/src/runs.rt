@@ -7,9 +7,7 @@ ghost use Rattle.operator_script.specs.Run.{BreaksFrom, GoesOn, IsQuiet, IsReady
 ghost use Rattle.operator_script.specs.Turn.{due_action};
 
 use crate::script::Script;
-use crate::turns::{
-    ActionEnd, Ending, TurnEnd, act_by_script, can_go, ending_in, is_due, quiet_steps,
-};
+use crate::turns::{Ending, TurnEnd, act_by_script, can_go, ending_in, is_due, quiet_steps};
 use cpu_step::{Machine, Turned};
 use outside_io::Host;
 
@@ -51,10 +49,7 @@ impl<const M: u32> Run<'_, M> {
             return TurnEnd::Ended(ending_in(self.machine.mode, self.machine.regs.ir));
         }
         if is_due(self.script, self.machine.mode, self.steps) {
-            return match act_by_script(self.machine, self.script, self.steps, host) {
-                ActionEnd::Acted => TurnEnd::Acted,
-                ActionEnd::Failed => TurnEnd::Ended(Ending::Failed),
-            };
+            return act_by_script(self.machine, self.script, self.steps, host);
         }
         if !self.machine.is_running() {
             return TurnEnd::Ended(ending_in(self.machine.mode, self.machine.regs.ir));

@@ -5,7 +5,7 @@ ghost use Rattle.digit_core.specs.Size.{size};
 ghost use Rattle.cpu_step.specs.Machine.{is_faulted};
 ghost use Rattle.operator_script.specs.Scripts.{IsLine, IsAction, HasFront, lines_left};
 ghost use Rattle.operator_script.specs.Turn.{ending_at, can_go, mode_at_start, is_due, due_action};
-ghost use Rattle.operator_script.specs.Run.{IsQuiet, Turns, Runs, Acts, StepsBy, moment, end_of_action};
+ghost use Rattle.operator_script.specs.Run.{IsQuiet, Turns, Runs, Acts, StepsBy, moment};
 
 use crate::runs::Run;
 use crate::script::{Action, Due, Script};
@@ -210,15 +210,6 @@ fn due_action(script: &Script, mode: Mode, steps: u64) -> Option<Action>
     }
 }
 
-// How an action ends.
-#[derive(Clone, Copy)]
-pub(crate) enum ActionEnd {
-    // The operator acted.
-    Acted,
-    // The host failed in the Load key.
-    Failed,
-}
-
 // The front line is due: the operator acts by it, and it is taken off. It stands apart, so that a turn without a line is short.
 #[inline(never)]
 pub(crate) fn act_by_script<const M: u32, H: Host>(
@@ -226,21 +217,22 @@ pub(crate) fn act_by_script<const M: u32, H: Host>(
     script: &mut Script,
     steps: u64,
     host: &mut H,
-) -> ActionEnd
+) -> TurnEnd
     requires due { is_some (due_action machine.old.mode steps (lines_left script.old)) ≡ true }
     requires go { can_go machine.old.mode ≡ true }
     requires mode { is_faulted machine.old.mode ≡ false }
     requires lines { All (IsLine (size M)) (lines_left script.old) }
-    ensures { let before = moment M machine.old script.old steps (H.seen host.old) in
+    ensures turns { let before = moment M machine.old script.old steps (H.seen host.old) in
         let after = moment M machine.new script.new steps (H.seen host.new) in
-        (limit : ℕ) → steps ≤ limit → Turns M limit before after (end_of_action result) }
+        (limit : ℕ) → steps ≤ limit → Turns M limit before after result }
+    ensures stepped { StepsBy M result machine.old machine.new (H.seen host.old) (H.seen host.new) }
 {
     match due_action(script, machine.mode, steps) {
         Some(action) => {
             script.front += 1;
             act(machine, action, host)
         }
-        None => ActionEnd::Acted,
+        None => TurnEnd::Acted,
     }
 }
 
@@ -254,8 +246,8 @@ fn started(mode: Mode) -> Mode
     }
 }
 
-// The operator acts.
-fn act<const M: u32, H: Host>(machine: &mut Machine<M>, action: Action, host: &mut H) -> ActionEnd
+// The operator acts. `Ended(Failed)` where the host failed in the Load key, and `Acted` otherwise.
+fn act<const M: u32, H: Host>(machine: &mut Machine<M>, action: Action, host: &mut H) -> TurnEnd
     requires action { IsAction (size M) action }
     requires mode { is_faulted machine.old.mode ≡ false }
     ensures { Acts M action machine.old machine.new (H.seen host.old) (H.seen host.new) result }
@@ -263,7 +255,7 @@ fn act<const M: u32, H: Host>(machine: &mut Machine<M>, action: Action, host: &m
     match action {
         Action::Start => machine.mode = started(machine.mode),
         Action::Load => match machine.load_key(host) {
-            Turned::Failed => return ActionEnd::Failed,
+            Turned::Failed => return TurnEnd::Ended(Ending::Failed),
             _ => {}
         },
         Action::Switch { number, on } => machine.panel.set(number, on),
@@ -277,5 +269,5 @@ fn act<const M: u32, H: Host>(machine: &mut Machine<M>, action: Action, host: &m
         }
         Action::Flip { at, bit } => machine.core.flip(at, bit),
     }
-    ActionEnd::Acted
+    TurnEnd::Acted
 }

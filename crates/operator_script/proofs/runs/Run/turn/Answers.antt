@@ -1,9 +1,8 @@
 use Rattle.std.proofs.Common.{refl, sym, ◌∙◌, arith}
 use Rattle.cpu_step.proofs.Exact.{step_sound}
-use Rattle.operator_script.specs.declared.turns.ActionEnd.TheVariants as did
 use Rattle.operator_script.specs.Run.{standing_of}
 use Rattle.operator_script.proofs.Turning.{due_none}
-use Rattle.operator_script.proofs.Moving.{over, still, full, moves_stepped, breaks_stepped, turned_as}
+use Rattle.operator_script.proofs.Moving.{over, still, full, moves_stepped, breaks_stepped}
 use Rattle.operator_script.proofs.runs.Run.turn.Goals as goal
 
 pub returns-then-not-can_go-clause-turns : goal.returns-then-not-can_go-clause-turns
@@ -12,12 +11,6 @@ returns-then-not-can_go-clause-turns g c =
 
 pub act_by_script-requires : goal.act_by_script-requires
 act_by_script-requires g c = (omega arith, (sym c.is_due.ensures ∙ c.if-is_due.true, (sym c.can_go.ensures ∙ c.if-not-can_go.false, (c.requires.sound, c.requires.lines))))
-
-pub returns-in-Acted-clause-turns : goal.returns-in-Acted-clause-turns
-returns-in-Acted-clause-turns g c = turned_as g.row.M c.args.self.now.limit _ _ _ _ _ did.Acted c.in-Acted.is (c.act_by_script.ensures c.args.self.now.limit c.requires.within)
-
-pub returns-in-Failed-clause-turns : goal.returns-in-Failed-clause-turns
-returns-in-Failed-clause-turns g c = turned_as g.row.M c.args.self.now.limit _ _ _ _ _ did.Failed c.in-Failed.is (c.act_by_script.ensures c.args.self.now.limit c.requires.within)
 
 pub returns-then-not-is_running-clause-turns : goal.returns-then-not-is_running-clause-turns
 returns-then-not-is_running-clause-turns g c =
@@ -29,10 +22,10 @@ returns-then-self-clause-turns g c =
     full g.row.M c.args.self.now.limit (standing_of g.row.M c.args.self.now) (g.H.Host.seen c.args.host.now) c.requires.sound (sym c.can_go.ensures ∙ c.if-not-can_go.false)
     (due_none _ (sym c.is_due.ensures ∙ c.if-is_due.false)) (sym c.is_running.ensures ∙ c.if-not-is_running.false) c.if-self.true
 
-pub returns-in-Failed-step-clause-turns : goal.returns-in-Failed-step-clause-turns
-returns-in-Failed-step-clause-turns g c =
+pub returns-in-Failed-clause-turns : goal.returns-in-Failed-clause-turns
+returns-in-Failed-clause-turns g c =
     breaks_stepped g.row.M c.args.self.now.limit _ _ _ _ (sym c.can_go.ensures ∙ c.if-not-can_go.false) (due_none _ (sym c.is_due.ensures ∙ c.if-is_due.false)) (sym c.is_running.ensures ∙ c.if-not-is_running.false)
-    c.requires.within c.if-self.false refl refl c.in-Failed-step.ensures
+    c.requires.within c.if-self.false refl refl c.in-Failed.ensures
 
 pub returns-in_default-clause-turns : goal.returns-in_default-clause-turns
 returns-in_default-clause-turns g c =
