@@ -1,3 +1,4 @@
+pub mod ByEnding
 pub mod NoLines
 pub mod Turning
 pub mod Acting

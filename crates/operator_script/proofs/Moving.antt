@@ -19,7 +19,8 @@ use Rattle.operator_script.specs.declared.turns.TurnEnd.{TurnEnd}
 use Rattle.operator_script.specs.declared.turns.TurnEnd.TheVariants as end
 use Rattle.operator_script.specs.Scripts.{lines_left}
 use Rattle.operator_script.specs.Turn.{RunPlace, Acted, Ended, turn, state_after_action, place_after_action, place_after_step, can_go, due_action, ending_at, in_step, in_load}
-use Rattle.operator_script.specs.Run.{RunState, StandsAt, moment_at, Rests, BreaksLoad, Turns, StepsBy, Acts}
+use Rattle.operator_script.specs.Run.{RunState, StandsAt, moment_at, Rests, BreaksTurn, BreaksLoad, Turns, StepsBy, Acts}
+use Rattle.operator_script.proofs.ByEnding.{says_ended}
 use Rattle.operator_script.proofs.Turning.{turn_acts, turn_steps, turn_full, turn_still, turn_over, room_for_one, counts_same, counts_differ}
 
 no_fail : (m : Mode) (ir : ℕ) → is_faulted m ≡ false → ending.Failed ≡ ending_at m ir → ⊥
@@ -80,13 +81,9 @@ module _ (m limit : ℕ) (old : RunState m) (before : Seen) where
 
   ends_with : (how : Ending) → is_faulted old.machine.mode ≡ false → how ≡ ending_at old.machine.mode old.machine.regs.ir → turn limit some_place ≡ Ended (ending_at old.machine.mode old.machine.regs.ir)
       → (how ≡ ending.Limit → old.steps ≡ limit) → (can_go old.machine.mode ≡ true → NoneDue) → Turns m limit (moment_at m old before) (moment_at m old before) (end.Ended how)
-  ends_with ending.Failed sound is over at_limit none = absurd (no_fail old.machine.mode old.machine.regs.ir sound is)
-  ends_with (ending.Halted at) sound is over at_limit none = rests (ending.Halted at) is over at_limit none
-  ends_with (ending.Stopped kind at) sound is over at_limit none = rests (ending.Stopped kind at) is over at_limit none
-  ends_with ending.Limit sound is over at_limit none = rests ending.Limit is over at_limit none
-  ends_with (ending.NeedCards at) sound is over at_limit none = rests (ending.NeedCards at) is over at_limit none
-  ends_with (ending.NeedKeys at) sound is over at_limit none = rests (ending.NeedKeys at) is over at_limit none
-  ends_with (ending.Jam u n) sound is over at_limit none = rests (ending.Jam u n) is over at_limit none
+  ends_with how sound is over at_limit none =
+      says_ended (BreaksTurn m limit (moment_at m old before) (moment_at m old before)) (Rests m limit (moment_at m old before) (moment_at m old before)) how
+      (λ failed. no_fail old.machine.mode old.machine.regs.ir sound (sym failed ∙ is)) (rests how is over at_limit none)
 
   -- an ending that comes at the limit is that of a running machine
   runs_at : (how : Ending) → how ≡ ending_at old.machine.mode old.machine.regs.ir → how ≡ ending.Limit → old.machine.mode ≡ mode.Running

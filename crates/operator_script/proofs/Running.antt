@@ -10,13 +10,13 @@ use Rattle.cpu_step.proofs.Shown.{frames_same}
 use Rattle.cpu_step.proofs.Exact.{state_told, states_told, frames_both}
 use Rattle.operator_script.specs.declared.script.ScriptLine.{ScriptLine}
 use Rattle.operator_script.specs.declared.turns.Ending.{Ending}
-use Rattle.operator_script.specs.declared.turns.Ending.TheVariants as ending
 use Rattle.operator_script.specs.declared.turns.TurnEnd.{TurnEnd}
 use Rattle.operator_script.specs.declared.turns.TurnEnd.TheVariants as end
 use Rattle.operator_script.specs.Scripts.{IsLine, lines_left}
 use Rattle.operator_script.specs.Turn.{RunPlace, Turning, Acted, Stepped, Ended, turn, place_after, most_turns, ending_at, ending_of, IsLast, IsCutTurn, IsOnTheWay}
 pub use Rattle.operator_script.specs.Run.{Underway, turns_left}
 use Rattle.operator_script.specs.Run.{RunState, StandsAt, moment_at, place_with, place_of, Moves, Rests, BreaksTurn, Turns, RunsOut, BreaksOff, Runs, GoesOn, BreaksFrom}
+use Rattle.operator_script.proofs.ByEnding.{by_ending}
 use Rattle.operator_script.proofs.Turning.{Less, Follows, turn_follows}
 use Rattle.operator_script.proofs.LastPlace.{on, turn_on}
 
@@ -136,13 +136,9 @@ module _ (m limit : ℕ) (first : RunState m) (start : Seen) (now : RunState m) 
 
   -- a turn that ends the run
   pub ended_on : (how : Ending) (next : RunState m) (after : Seen) → Turns m limit (moment_at m now seen) (moment_at m next after) (end.Ended how) → Runs m limit (moment_at m first start) (moment_at m next after) how
-  ended_on ending.Failed next after turns = breaks_off next after turns
-  ended_on (ending.Halted at) next after turns = rests_out (ending.Halted at) next after turns
-  ended_on (ending.Stopped kind at) next after turns = rests_out (ending.Stopped kind at) next after turns
-  ended_on ending.Limit next after turns = rests_out ending.Limit next after turns
-  ended_on (ending.NeedCards at) next after turns = rests_out (ending.NeedCards at) next after turns
-  ended_on (ending.NeedKeys at) next after turns = rests_out (ending.NeedKeys at) next after turns
-  ended_on (ending.Jam u n) next after turns = rests_out (ending.Jam u n) next after turns
+  ended_on how next after turns =
+      by_ending (BreaksTurn m limit (moment_at m now seen) (moment_at m next after)) (BreaksOff m limit (moment_at m first start) (moment_at m next after)) (Rests m limit (moment_at m now seen) (moment_at m next after)) (RunsOut m limit (moment_at m first start) (moment_at m next after))
+      (breaks_off next after) (λ e rests. rests_out e next after rests) how turns
 
   -- one turn more, of whichever kind
   pub moved_by : (r : TurnEnd) (next : RunState m) (after : Seen) → (r ≡ end.Acted) ⊎ (r ≡ end.Stepped) → Turns m limit (moment_at m now seen) (moment_at m next after) r → Underway m limit first start next after × (suc (turns_left limit m next) ≤ turns_left limit m now)
