@@ -10,9 +10,10 @@ use Rattle.operator_script.specs.declared.turns.Ending.TheVariants as ending
 use Rattle.operator_script.specs.declared.turns.TurnEnd.TheVariants as end
 use Rattle.operator_script.specs.declared.turns.TurnEnd.{TurnEnd}
 use Rattle.operator_script.specs.Turn.{RunPlace, Turning, Acted, Stepped, Ended, turn, is_step, place_after_step, IsCutTurn, in_step, in_load}
+use Rattle.operator_script.proofs.ByEnding.{by_ending, not_failed}
 use Rattle.console_debug.specs.Places.{Reached, later, turns_to_step}
 use Rattle.console_debug.specs.Session.{Course, nth_place, places_ahead}
-use Rattle.console_debug.specs.CursorStates.{CursorState, IsOn, IsFit, IsLed, MovesOn, StaysOn, BreaksOn, Advances, IsStepAhead, ToAStep, ToTheEnd, BreaksOnTheWay, ToStep, came_to_end, moves_left, turns_or_all}
+use Rattle.console_debug.specs.CursorStates.{CursorState, IsOn, IsFit, IsLed, MovesOn, StaysOn, BreaksOn, Advances, IsStepAhead, ToAStep, ToTheEnd, BreaksOnTheWay, ToStep, moves_left, turns_or_all}
 use Rattle.console_debug.proofs.Looking.{stays_on, stays_fit, stays_frames}
 use Rattle.console_debug.proofs.Courses.{led_by}
 use Rattle.console_debug.proofs.Later.{later_on, later_none}
@@ -176,14 +177,12 @@ module _ (m limit : ℕ) (first now new : CursorState m) (heading : Heading m li
     frames = frames_both m first.at.machine now.at.machine new.at.machine first.seen now.seen new.seen heading.frames broke.frames;
   }
 
-  pub ends_on : (how : Ending) → IsStepAhead m limit now false → Advances m limit now new (end.Ended how) → ToStep m limit first new (came_to_end how)
-  ends_on (ending.Halted at) none stays = ends_at (ending.Halted at) stays
-  ends_on (ending.Stopped kind at) none stays = ends_at (ending.Stopped kind at) stays
-  ends_on ending.Limit none stays = ends_at ending.Limit stays
-  ends_on (ending.NeedCards at) none stays = ends_at (ending.NeedCards at) stays
-  ends_on (ending.NeedKeys at) none stays = ends_at (ending.NeedKeys at) stays
-  ends_on (ending.Jam u i) none stays = ends_at (ending.Jam u i) stays
-  ends_on ending.Failed none broke = breaks_at none broke
+  pub ends_on : (how : Ending) → IsStepAhead m limit now false → Advances m limit now new (end.Ended how) → ToStep m limit first new (Some how)
+  ends_on how none advances = by_ending (BreaksOn m limit now new) (BreaksOnTheWay m limit first new) (λ e. StaysOn m limit e now new) (λ e. ToTheEnd m limit e first new) (breaks_at none) ends_at how advances
+
+-- a move that ended otherwise than by a failure came to the end
+pub to_the_end : (m limit : ℕ) (old new : CursorState m) (how : Ending) → (how ≡ ending.Failed → ⊥) → ToStep m limit old new (Some how) → ToTheEnd m limit how old new
+to_the_end m limit old new = not_failed (BreaksOnTheWay m limit old new) (λ e. ToTheEnd m limit e old new)
 
 -- the step comes next
 pub step_there : (m limit : ℕ) (first now : CursorState m) → Heading m limit first now → IsStepAhead m limit now true → ToAStep m limit first now

@@ -12,12 +12,12 @@ use Rattle.cpu_step.specs.Step.{step}
 use Rattle.cpu_step.specs.Stores.{ShowsTheSame, StepStores, StoresWithin}
 use Rattle.cpu_step.proofs.StoredWords.{step_stored}
 use Rattle.operator_script.specs.declared.turns.Ending.{Ending}
-use Rattle.operator_script.specs.declared.turns.Ending.TheVariants as ending
 use Rattle.operator_script.specs.declared.turns.TurnEnd.{TurnEnd}
 use Rattle.operator_script.specs.declared.turns.TurnEnd.TheVariants as end
 use Rattle.operator_script.specs.Turn.{RunPlace, Turning}
 use Rattle.operator_script.specs.Run.{place_of}
 use Rattle.rewind_log.specs.Kept.{Kept, newest}
+use Rattle.operator_script.proofs.ByEnding.{by_ending}
 use Rattle.console_debug.specs.Session.{Course}
 use Rattle.console_debug.specs.CursorStates.{CursorState, with_machine, IsOn, IsFit, MovesOn, StaysOn, BreaksOn, Advances}
 use Rattle.console_debug.specs.Debugs.{Attends}
@@ -131,13 +131,7 @@ module _ (m limit : ℕ) (old new : CursorState m) (machine : Machine m) (same :
   pub advances_from : (r : TurnEnd) → Advances m limit looked new r → Advances m limit old new r
   advances_from end.Acted moves = moves_from _ moves
   advances_from end.Stepped moves = moves_from _ moves
-  advances_from (end.Ended (ending.Halted at)) stays = stays_from (ending.Halted at) stays
-  advances_from (end.Ended (ending.Stopped kind at)) stays = stays_from (ending.Stopped kind at) stays
-  advances_from (end.Ended ending.Limit) stays = stays_from ending.Limit stays
-  advances_from (end.Ended (ending.NeedCards at)) stays = stays_from (ending.NeedCards at) stays
-  advances_from (end.Ended (ending.NeedKeys at)) stays = stays_from (ending.NeedKeys at) stays
-  advances_from (end.Ended (ending.Jam u n)) stays = stays_from (ending.Jam u n) stays
-  advances_from (end.Ended ending.Failed) breaks = breaks_from breaks
+  advances_from (end.Ended how) over = by_ending (BreaksOn m limit looked new) (BreaksOn m limit old new) (λ e. StaysOn m limit e looked new) (λ e. StaysOn m limit e old new) breaks_from stays_from how over
 
 -- What a step may have stored.
 

@@ -10,6 +10,7 @@ use Rattle.operator_script.specs.declared.turns.Ending.TheVariants as ending
 use Rattle.operator_script.specs.declared.turns.TurnEnd.{TurnEnd}
 use Rattle.operator_script.specs.declared.turns.TurnEnd.TheVariants as end
 use Rattle.operator_script.specs.Turn.{RunPlace, Turning, Acted, Stepped, Ended, IsCutTurn, is_step, turn}
+use Rattle.operator_script.proofs.ByEnding.{not_failed}
 use Rattle.sps_pass_two.specs.Assembled.{PlacedText}
 use Rattle.console_debug.specs.Lines.{at_line, ending_line}
 use Rattle.console_debug.specs.Places.{turns_to_step}
@@ -87,13 +88,7 @@ module _ (m limit : ℕ) (placed : List PlacedText) (x : CursorState m) (set : L
 
   pub step_over : (new : CursorState m) (how : Ending) → (how ≡ ending.Failed → ⊥) → IsStepAhead m limit x true → Sends x.seen after units.Report (at_line x.at.machine.regs.ir x.at.steps) sent.Done
       → Advances m limit behind_line new (end.Ended how) → Does m limit placed step_on (debugger_state m x set) (debugger_state m new set)
-  step_over new (ending.Halted at) other next sends stays = stays_over new (ending.Halted at) next sends stays
-  step_over new (ending.Stopped kind at) other next sends stays = stays_over new (ending.Stopped kind at) next sends stays
-  step_over new ending.Limit other next sends stays = stays_over new ending.Limit next sends stays
-  step_over new (ending.NeedCards at) other next sends stays = stays_over new (ending.NeedCards at) next sends stays
-  step_over new (ending.NeedKeys at) other next sends stays = stays_over new (ending.NeedKeys at) next sends stays
-  step_over new (ending.Jam u i) other next sends stays = stays_over new (ending.Jam u i) next sends stays
-  step_over new ending.Failed other next sends stays = absurd (other refl)
+  step_over new how other next sends advances = stays_over new how next sends (not_failed (BreaksOn m limit behind_line new) (λ e. StaysOn m limit e behind_line new) how other advances)
 
 -- how many steps are left, written otherwise
 pub steps_left : (m limit : ℕ) (placed : List PlacedText) (k j : ℕ) (f : Course → Session → Session) (first now : DebuggerState m) → k ≡ j → Underway m limit placed f (steps k) first now → Underway m limit placed f (steps j) first now

@@ -27,6 +27,7 @@ use Rattle.operator_script.proofs.LastPlace.{on, turn_on}
 use Rattle.operator_script.proofs.Running.{Underway, turns_left, place_told, place_is, places_told, the_told}
 use Rattle.rewind_log.specs.Kept.{Kept, place_of_machine, places_with, machine_at, newest, most_places}
 use Rattle.rewind_log.proofs.Places.{element}
+use Rattle.operator_script.proofs.ByEnding.{by_ending}
 use Rattle.console_debug.specs.Session.{Course, nth_place, place_as_seen}
 use Rattle.console_debug.specs.CursorStates.{CursorState, cursor_state, with_machine, kept_at_place, newest_count, AreAllOrLast, IsOn, IsFitPlace, IsFit, MovesOn, StaysOn, BreaksOn, Advances, IsAtKept, GoesBack}
 use Rattle.console_debug.proofs.Courses.{led_by, after_last, turn_between, led_by_count}
@@ -450,10 +451,4 @@ module _ (m limit : ℕ) (old : CursorState m) (new : RunState m) (after : Seen)
   }
 
   pub over_on : (how : Ending) → Turns m limit (moment_at m old.at old.seen) (moment_at m new after) (end.Ended how) → Advances m limit old ended (end.Ended how)
-  over_on (ending.Halted at) rests = rests_on (ending.Halted at) rests
-  over_on (ending.Stopped kind at) rests = rests_on (ending.Stopped kind at) rests
-  over_on ending.Limit rests = rests_on ending.Limit rests
-  over_on (ending.NeedCards at) rests = rests_on (ending.NeedCards at) rests
-  over_on (ending.NeedKeys at) rests = rests_on (ending.NeedKeys at) rests
-  over_on (ending.Jam u n) rests = rests_on (ending.Jam u n) rests
-  over_on ending.Failed broke = breaks_on broke
+  over_on how over = by_ending (BreaksTurn m limit (moment_at m old.at old.seen) (moment_at m new after)) (BreaksOn m limit old ended) (Rests m limit (moment_at m old.at old.seen) (moment_at m new after)) (λ e. StaysOn m limit e old ended) breaks_on rests_on how over

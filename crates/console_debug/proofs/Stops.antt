@@ -6,10 +6,11 @@ use Rattle.operator_script.specs.declared.turns.Ending.{Ending}
 use Rattle.operator_script.specs.declared.turns.Ending.TheVariants as ending
 use Rattle.operator_script.specs.declared.turns.TurnEnd.TheVariants as end
 use Rattle.operator_script.specs.Turn.{RunPlace, Turning, Acted, Stepped, Ended, turn, IsCutTurn}
+use Rattle.operator_script.proofs.ByEnding.{by_ending, not_failed}
 use Rattle.sps_pass_two.specs.Assembled.{PlacedText}
 use Rattle.console_debug.specs.Places.{Reached, later, is_at_break, is_stop, turns_to_stop}
 use Rattle.console_debug.specs.Session.{Course, nth_place, places_ahead, place_as_seen}
-use Rattle.console_debug.specs.CursorStates.{CursorState, IsOn, IsFit, IsLed, MovesOn, StaysOn, BreaksOn, Advances, ToAStop, ToTheLast, BreaksBefore, ToStop, came_to_end, turns_or_all, PassesOn}
+use Rattle.console_debug.specs.CursorStates.{CursorState, IsOn, IsFit, IsLed, MovesOn, StaysOn, BreaksOn, Advances, ToAStop, ToTheLast, BreaksBefore, ToStop, turns_or_all, PassesOn}
 use Rattle.console_debug.proofs.Looking.{stays_on, stays_fit, stays_frames}
 use Rattle.console_debug.proofs.Courses.{led_by}
 use Rattle.cpu_step.specs.declared.machine.Mode.{Mode}
@@ -167,11 +168,9 @@ module _ (placed : List PlacedText) (set : List ℕ) where
         before_stop j all o true r rs is stop inside = subst (λ (x : Option ℕ). j < turns_or_all x all) (sym (stop ∙ ap (option_map (λ k. j + k)) (stop_here r rs is))) (omega arith)
         before_stop j all o false r rs is stop inside = before_step j all (turns_to_stop placed set rs) o (stop ∙ ap (option_map (λ k. j + k)) (stop_passed r rs is)) inside
 
-    pub ends_on : (how : Ending) → Advances m limit now new (end.Ended how) → ToStop m limit placed set first new (came_to_end how)
-    ends_on (ending.Halted at) stays = ends_at (ending.Halted at) stays
-    ends_on (ending.Stopped kind at) stays = ends_at (ending.Stopped kind at) stays
-    ends_on ending.Limit stays = ends_at ending.Limit stays
-    ends_on (ending.NeedCards at) stays = ends_at (ending.NeedCards at) stays
-    ends_on (ending.NeedKeys at) stays = ends_at (ending.NeedKeys at) stays
-    ends_on (ending.Jam u i) stays = ends_at (ending.Jam u i) stays
-    ends_on ending.Failed broke = breaks_at broke
+    pub ends_on : (how : Ending) → Advances m limit now new (end.Ended how) → ToStop m limit placed set first new (Some how)
+    ends_on how advances = by_ending (BreaksOn m limit now new) (BreaksBefore m limit placed set first new) (λ e. StaysOn m limit e now new) (λ e. ToTheLast m limit placed set e first new) breaks_at ends_at how advances
+
+  -- a move that ended otherwise than by a failure came to the end
+  pub to_the_last : (m limit : ℕ) (old new : CursorState m) (how : Ending) → (how ≡ ending.Failed → ⊥) → ToStop m limit placed set old new (Some how) → ToTheLast m limit placed set how old new
+  to_the_last m limit old new = not_failed (BreaksBefore m limit placed set old new) (λ e. ToTheLast m limit placed set e old new)

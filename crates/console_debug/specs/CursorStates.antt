@@ -16,8 +16,6 @@ use Rattle.operator_script.specs.Turn.{RunPlace, Turning, Acted, Stepped, Ended,
 use Rattle.operator_script.specs.Run.{RunState, run_state, standing_of, IsSameRun, place_of}
 use Rattle.sps_pass_two.specs.Assembled.{PlacedText}
 use Rattle.rewind_log.specs.Kept.{Kept, machine_at, newest, most_places}
-use Rattle.console_debug.specs.declared.moves.Came.{Came}
-use Rattle.console_debug.specs.declared.moves.Came.TheVariants as came
 use Rattle.console_debug.specs.declared.walking.Cursor.{Cursor}
 use Rattle.console_debug.specs.Places.{turns_to_stop, turns_to_step}
 use Rattle.console_debug.specs.Session.{Course, nth_place, places_ahead, place_as_seen}
@@ -205,15 +203,10 @@ pub record BreaksOnTheWay (m limit : ℕ) (old new : CursorState m) : Type 0 whe
   pub frames : Frames m old.at.machine new.at.machine old.seen new.seen
 
 -- WHAT THE MOVES TO A STEP DO
-abbrev pub ToStep : (m limit : ℕ) → CursorState m → CursorState m → Came → Type 0
-ToStep m limit old new came.There = ToAStep m limit old new
-ToStep m limit old new (came.End how) = ToTheEnd m limit how old new
-ToStep m limit old new came.Fault = BreaksOnTheWay m limit old new
-
--- how far it came, where the run ended so
-abbrev pub came_to_end : Ending → Came
-came_to_end ending.Failed = came.Fault
-came_to_end how = came.End how
+abbrev pub ToStep : (m limit : ℕ) → CursorState m → CursorState m → Option Ending → Type 0
+ToStep m limit old new None = ToAStep m limit old new
+ToStep m limit old new (Some ending.Failed) = BreaksOnTheWay m limit old new
+ToStep m limit old new (Some how) = ToTheEnd m limit how old new
 
 -- To the next stop, or to the end.
 
@@ -240,10 +233,10 @@ pub record BreaksBefore (m limit : ℕ) (placed : List PlacedText) (breaks : Lis
   pub frames : Frames m old.at.machine new.at.machine old.seen new.seen
 
 -- WHAT THE MOVES TO A STOP DO
-abbrev pub ToStop : (m limit : ℕ) → List PlacedText → List ℕ → CursorState m → CursorState m → Came → Type 0
-ToStop m limit placed breaks old new came.There = ToAStop m limit placed breaks old new
-ToStop m limit placed breaks old new (came.End how) = ToTheLast m limit placed breaks how old new
-ToStop m limit placed breaks old new came.Fault = BreaksBefore m limit placed breaks old new
+abbrev pub ToStop : (m limit : ℕ) → List PlacedText → List ℕ → CursorState m → CursorState m → Option Ending → Type 0
+ToStop m limit placed breaks old new None = ToAStop m limit placed breaks old new
+ToStop m limit placed breaks old new (Some ending.Failed) = BreaksBefore m limit placed breaks old new
+ToStop m limit placed breaks old new (Some how) = ToTheLast m limit placed breaks how old new
 
 -- Over the places that are kept.
 

@@ -9,7 +9,6 @@ ghost use Rattle.console_debug.specs.CursorStates.{IsFit, IsSameCursor, IsStepAh
 
 use crate::breaks::Breaks;
 use crate::lines::{at_line, break_line, ending_line, no_back_line};
-use crate::moves::Came;
 use crate::walking::Cursor;
 use operator_script::{Ending, TurnEnd};
 use outside_io::{Host, Sent, Unit, write_all};
@@ -31,19 +30,18 @@ impl<const M: u32> Cursor<'_, '_, M> {
             Carries M self.old.run.limit (placed_texts assembled.now) does.go before after result }
     {
         match self.to_stop(assembled, breaks, host) {
-            Came::There => {
+            None => {
                 let ir = self.run.machine.regs.ir;
                 let line = break_line(breaks.number_at(assembled, ir), ir, self.run.steps);
                 write_all(host, Unit::Report, line.as_bytes())
             }
-            Came::End(how) => {
-                write_all(
-                    host,
-                    Unit::Report,
-                    ending_line(how, self.run.steps).as_bytes(),
-                )
-            }
-            Came::Fault => Sent::Failed,
+            Some(how) => match how {
+                Ending::Failed => Sent::Failed,
+                _ => {
+                    let line = ending_line(how, self.run.steps);
+                    write_all(host, Unit::Report, line.as_bytes())
+                }
+            },
         }
     }
 
@@ -62,12 +60,14 @@ impl<const M: u32> Cursor<'_, '_, M> {
         };
         for _step in 0..left {
             match self.to_step(host) {
-                Came::There => {}
-                Came::End(how) => {
-                    let line = ending_line(how, self.run.steps);
-                    return write_all(host, Unit::Report, line.as_bytes());
-                }
-                Came::Fault => return Sent::Failed,
+                None => {}
+                Some(how) => match how {
+                    Ending::Failed => return Sent::Failed,
+                    _ => {
+                        let line = ending_line(how, self.run.steps);
+                        return write_all(host, Unit::Report, line.as_bytes());
+                    }
+                },
             }
             match self.make_step(host) {
                 Sent::Done => {}

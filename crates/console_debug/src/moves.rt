@@ -3,7 +3,7 @@ ghost use Rattle.std.specs.Prelude.{◌≡◌, ◌<◌, IfSome, false, length, s
 ghost use Rattle.outside_io.specs.World.{Seen};
 ghost use Rattle.sps_listing.specs.Listing.{placed_texts};
 ghost use Rattle.console_debug.specs.Breakpoints.{HasTables, set_now};
-ghost use Rattle.console_debug.specs.CursorStates.{IsFit, IsSameCursor, ToKeptStop, ToStep, ToStop, came_to_end, cursor_state_of};
+ghost use Rattle.console_debug.specs.CursorStates.{IsFit, IsSameCursor, ToKeptStop, ToStep, ToStop, cursor_state_of};
 ghost use Rattle.console_debug.specs.Places.{is_at_break};
 
 use crate::breaks::Breaks;
@@ -12,29 +12,6 @@ use cpu_step::Mode;
 use operator_script::{Ending, Run, TurnEnd};
 use outside_io::Host;
 use sps_pass_two::Assembled;
-
-// How far the moves came.
-#[derive(Clone, Copy)]
-pub(crate) enum Came {
-    // To the place that was looked for.
-    There,
-    // To the end of the run.
-    End(Ending),
-    // The host failed.
-    Fault,
-}
-
-impl Came {
-    // How far the moves came, where the run ended so.
-    fn at_end(how: Ending) -> Came
-        ensures { result ≡ came_to_end how }
-    {
-        match how {
-            Ending::Failed => Came::Fault,
-            _ => Came::End(how),
-        }
-    }
-}
 
 // Whether a machine runs at a breakpoint.
 fn is_at_break<const M: u32>(run: &Run<M>, assembled: &Assembled, breaks: &Breaks) -> bool
@@ -57,13 +34,13 @@ fn runs_at_break(assembled: &Assembled, breaks: &Breaks, mode: Mode, ir: u32) ->
 }
 
 impl<const M: u32> Cursor<'_, '_, M> {
-    // On to the next place behind a step at a breakpoint, or to the end of the run.
+    // On to the next place behind a step at a breakpoint, or to the end of the run; how it ended, or None at such a place.
     pub(crate) fn to_stop<H: Host>(
         &mut self,
         assembled: &Assembled,
         breaks: &Breaks,
         host: &mut H,
-    ) -> Came
+    ) -> Option<Ending>
         requires sound { IsFit M self.old.run.limit (cursor_state_of M self.old (H.seen host.old)) }
         requires tables { HasTables (placed_texts assembled.now) breaks.now }
         ensures same { IsSameCursor M self.old self.new }
@@ -72,17 +49,17 @@ impl<const M: u32> Cursor<'_, '_, M> {
             ToStop M self.old.run.limit (placed_texts assembled.now) (set_now breaks.now) before after result }
     {
         if self.to_kept_stop(assembled, breaks) {
-            return Came::There;
+            return None;
         }
         loop {
             match self.advance(host) {
                 TurnEnd::Acted => {}
                 TurnEnd::Stepped => {
                     if is_at_break(&self.run, assembled, breaks) {
-                        return Came::There;
+                        return None;
                     }
                 }
-                TurnEnd::Ended(how) => return Came::at_end(how),
+                TurnEnd::Ended(how) => return Some(how),
             }
         }
     }
@@ -131,8 +108,8 @@ impl<const M: u32> Cursor<'_, '_, M> {
         )
     }
 
-    // From the furthest place on to that of the next step, or to the end of the run.
-    pub(crate) fn to_step<H: Host>(&mut self, host: &mut H) -> Came
+    // From the furthest place on to that of the next step, or to the end of the run; how it ended, or None where a step comes next.
+    pub(crate) fn to_step<H: Host>(&mut self, host: &mut H) -> Option<Ending>
         requires fit { IsFit M self.old.run.limit (cursor_state_of M self.old (H.seen host.old)) }
         requires furthest { self.old.behind ≡ 0 }
         ensures same { IsSameCursor M self.old self.new }
@@ -143,11 +120,11 @@ impl<const M: u32> Cursor<'_, '_, M> {
     {
         loop {
             if self.is_step_ahead() {
-                return Came::There;
+                return None;
             }
             match self.advance(host) {
                 TurnEnd::Acted | TurnEnd::Stepped => {}
-                TurnEnd::Ended(how) => return Came::at_end(how),
+                TurnEnd::Ended(how) => return Some(how),
             }
         }
     }

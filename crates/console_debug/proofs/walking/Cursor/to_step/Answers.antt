@@ -1,6 +1,7 @@
 -- Moves up to the next step.
-use Rattle.std.proofs.Common.{refl, sym, ◌∙◌}
-use Rattle.console_debug.specs.CursorStates.{cursor_state_of}
+use Rattle.std.proofs.Common.{refl, sym, ◌∙◌, subst}
+use Rattle.std.specs.Prelude.{Some}
+use Rattle.console_debug.specs.CursorStates.{ToStep, cursor_state_of}
 use Rattle.console_debug.proofs.Heading.{sets_out, moves_on, ends_on, step_there}
 use Rattle.console_debug.proofs.walking.Cursor.to_step.Goals as goal
 
@@ -36,6 +37,8 @@ loop-self-smaller g c =
 
 pub returns-in-Ended-clause-steps : goal.returns-in-Ended-clause-steps
 returns-in-Ended-clause-steps g c =
-    rw (c.at_end.ensures, sym c.loop-self.invariant.same.0.2)
-    (ends_on g.row.M c.loop-self.self.run.limit _ _ (cursor_state_of g.row.M c.advance.new.self (g.H.Host.seen c.advance.new.host)) c.loop-self.invariant.heads c.in-Ended.how
-    (rw (c.if-is_step_ahead.false) at c.is_step_ahead.ensures (g.H.Host.seen c.loop-self.host)) c.in-Ended.ensures.advances)
+    let m = g.row.M in
+    let old = cursor_state_of m c.args.self.now (g.H.Host.seen c.args.host.now) in
+    let new = cursor_state_of m c.advance.new.self (g.H.Host.seen c.advance.new.host) in
+    subst (λ k. ToStep m k old new (Some c.in-Ended.how)) c.loop-self.invariant.same.0.2
+    (ends_on m c.loop-self.self.run.limit _ _ new c.loop-self.invariant.heads c.in-Ended.how (rw (c.if-is_step_ahead.false) at c.is_step_ahead.ensures (g.H.Host.seen c.loop-self.host)) c.in-Ended.ensures.advances)

@@ -1,8 +1,9 @@
 -- Moves up to the next stop.
-use Rattle.std.proofs.Common.{sym, ◌∙◌}
+use Rattle.std.proofs.Common.{sym, ◌∙◌, subst}
+use Rattle.std.specs.Prelude.{Some}
 use Rattle.sps_listing.specs.Listing.{placed_texts}
 use Rattle.console_debug.specs.Breakpoints.{set_now}
-use Rattle.console_debug.specs.CursorStates.{cursor_state_of}
+use Rattle.console_debug.specs.CursorStates.{ToStop, cursor_state_of}
 use Rattle.console_debug.proofs.Stops.{acted_on, stepped_on, stopped_on, ends_on}
 use Rattle.console_debug.proofs.walking.Cursor.to_stop.Goals as goal
 
@@ -56,5 +57,9 @@ loop-how-smaller g c = rw (c.advance.ensures.same.0.2) c.in-Stepped.ensures.adva
 
 pub returns-in-Ended-clause-stops : goal.returns-in-Ended-clause-stops
 returns-in-Ended-clause-stops g c =
-    rw (c.at_end.ensures, sym c.loop-how.invariant.same.0.2)
-    (ends_on (placed_texts c.args.assembled.now) (set_now c.args.breaks.now) g.row.M c.loop-how.self.run.limit _ _ (cursor_state_of g.row.M c.advance.new.self (g.H.Host.seen c.advance.new.host)) c.loop-how.invariant.heads c.in-Ended.how c.in-Ended.ensures.advances)
+    let m = g.row.M in
+    let placed = placed_texts c.args.assembled.now in
+    let breaks = set_now c.args.breaks.now in
+    let old = cursor_state_of m c.args.self.now (g.H.Host.seen c.args.host.now) in
+    let new = cursor_state_of m c.advance.new.self (g.H.Host.seen c.advance.new.host) in
+    subst (λ k. ToStop m k placed breaks old new (Some c.in-Ended.how)) c.loop-how.invariant.same.0.2 (ends_on placed breaks m c.loop-how.self.run.limit _ _ new c.loop-how.invariant.heads c.in-Ended.how c.in-Ended.ensures.advances)
