@@ -7,6 +7,7 @@ use Rattle.outside_io.specs.declared.whole.Sent.TheVariants as sent
 use Rattle.outside_io.specs.World.{Seen}
 use Rattle.outside_io.specs.Whole.{Sends}
 use Rattle.sps_pass_two.specs.Assembled.{PlacedText}
+use Rattle.console_debug.specs.declared.commands.DebugCommand.{DebugCommand}
 use Rattle.console_debug.specs.declared.commands.DebugCommand.TheVariants as command
 use Rattle.console_debug.specs.Lines.{no_statement_line, show_line}
 use Rattle.console_debug.specs.Places.{is_instruction}
@@ -16,35 +17,40 @@ use Rattle.console_debug.specs.Carries.{DebuggerState, debugger_state, Does, Car
 use Rattle.console_debug.proofs.DebuggerStates.{attends_same, begins, all_done, core_here, said, carried_same}
 
 module _ (m limit : ℕ) (placed : List PlacedText) where
+  -- said of a command that is this one
+  of_command : (what given : DebugCommand) (a b : DebuggerState m) (how : Sent) → what ≡ given → Carries m limit placed (session_after given) a b how → Carries m limit placed (session_after what) a b how
+  of_command what given a b how is carries = subst (λ (x : DebugCommand). Carries m limit placed (session_after x) a b how) (sym is) carries
+
   -- those that move along the run
-  pub go_carried : (a b : DebuggerState m) (how : Sent) → Carries m limit placed go a b how → Carries m limit placed (session_after command.Go) a b how
+  pub go_carried : (what : DebugCommand) (a b : DebuggerState m) (how : Sent) → what ≡ command.Go → Carries m limit placed go a b how → Carries m limit placed (session_after what) a b how
   unfolding session_after
-  go_carried a b how carries = carries
+  go_carried what a b how is carries = of_command what command.Go a b how is carries
 
-  pub step_carried : (n : ℕ) (a b : DebuggerState m) (how : Sent) → Carries m limit placed (steps n) a b how → Carries m limit placed (session_after (command.Step n)) a b how
+  pub step_carried : (what : DebugCommand) (n : ℕ) (a b : DebuggerState m) (how : Sent) → what ≡ command.Step n → Carries m limit placed (steps n) a b how → Carries m limit placed (session_after what) a b how
   unfolding session_after
-  step_carried n a b how carries = carries
+  step_carried what n a b how is carries = of_command what (command.Step n) a b how is carries
 
-  pub back_carried : (n : ℕ) (a b : DebuggerState m) (how : Sent) → Carries m limit placed (back n) a b how → Carries m limit placed (session_after (command.Back n)) a b how
+  pub back_carried : (what : DebugCommand) (n : ℕ) (a b : DebuggerState m) (how : Sent) → what ≡ command.Back n → Carries m limit placed (back n) a b how → Carries m limit placed (session_after what) a b how
   unfolding session_after
-  back_carried n a b how carries = carries
+  back_carried what n a b how is carries = of_command what (command.Back n) a b how is carries
 
   -- QUIT
-  pub quit_carried : (x : DebuggerState m) → IsFit m limit x.cursor_state → Does m limit placed (session_after command.Quit) x x
+  pub quit_carried : (what : DebugCommand) (x : DebuggerState m) → what ≡ command.Quit → IsFit m limit x.cursor_state → Does m limit placed (session_after what) x x
   unfolding session_after
-  quit_carried x fit = all_done m limit placed (session_after command.Quit) x x (begins m limit placed (session_after command.Quit) (λ c s. s) x (λ c s. refl) fit)
+  quit_carried what x is fit = of_command what command.Quit x x sent.Done is (all_done m limit placed (session_after command.Quit) x x (begins m limit placed (session_after command.Quit) (λ c s. s) x (λ c s. refl) fit))
 
   module _ (x : CursorState m) (fit : IsFit m limit x) (after : Seen) (how : Sent) where
     abbrev later : CursorState m
     later = record x { seen = after }
 
     -- SHOW
-    pub show_carried : (set : List ℕ) (at count : ℕ) → Sends x.seen after units.Report (show_line x.at.machine.core at count) how
-        → Carries m limit placed (session_after (command.Show at count)) (debugger_state m x set) (debugger_state m later set) how
+    pub show_carried : (what : DebugCommand) (set : List ℕ) (at count : ℕ) → what ≡ command.Show at count → Sends x.seen after units.Report (show_line x.at.machine.core at count) how
+        → Carries m limit placed (session_after what) (debugger_state m x set) (debugger_state m later set) how
     unfolding session_after
-    show_carried set at count sends = said m limit placed x set after (session_after (command.Show at count)) (show_line x.at.machine.core at count) how fit
+    show_carried what set at count is sends = of_command what (command.Show at count) (debugger_state m x set) (debugger_state m later set) how is
+        (said m limit placed x set after (session_after (command.Show at count)) (show_line x.at.machine.core at count) how fit
         (λ c over start s stands. ap (λ core. says (show_line core at count) s) (core_here m c s.at s.furthest x stands.on_it))
-        sends
+        sends)
 
     -- other breakpoints, or a line
     abbrev sets_or_says : Bool → ℕ → (List ℕ → List ℕ) → Course → Session → Session
@@ -68,17 +74,19 @@ module _ (m limit : ℕ) (placed : List PlacedText) where
     sets_over f n change a b same carries = carried_same m limit placed f (sets_or_says (is_instruction placed n) n change) a b how (λ c over s. same c over.placed_is s) carries
 
     -- BREAK and CLEAR
-    pub break_carried : (n : ℕ) (old new : List ℕ) → Sets placed n (with_break n) (marks old x.seen) (marks new after) how
-        → Carries m limit placed (session_after (command.Break n)) (debugger_state m x old) (debugger_state m later new) how
+    pub break_carried : (what : DebugCommand) (n : ℕ) (old new : List ℕ) → what ≡ command.Break n → Sets placed n (with_break n) (marks old x.seen) (marks new after) how
+        → Carries m limit placed (session_after what) (debugger_state m x old) (debugger_state m later new) how
     unfolding session_after
-    break_carried n old new sets = sets_over (λ c s. set_break c.placed n s) n (with_break n) (debugger_state m x old) (debugger_state m later new) (λ c is s. ap (λ (p : List PlacedText). set_break p n s) is)
-        (set_carried (is_instruction placed n) n old new (with_break n) sets)
+    break_carried what n old new is sets = of_command what (command.Break n) (debugger_state m x old) (debugger_state m later new) how is
+        (sets_over (λ c s. set_break c.placed n s) n (with_break n) (debugger_state m x old) (debugger_state m later new) (λ c is s. ap (λ (p : List PlacedText). set_break p n s) is)
+        (set_carried (is_instruction placed n) n old new (with_break n) sets))
 
-    pub clear_carried : (n : ℕ) (old new : List ℕ) → Sets placed n (without_break n) (marks old x.seen) (marks new after) how
-        → Carries m limit placed (session_after (command.Clear n)) (debugger_state m x old) (debugger_state m later new) how
+    pub clear_carried : (what : DebugCommand) (n : ℕ) (old new : List ℕ) → what ≡ command.Clear n → Sets placed n (without_break n) (marks old x.seen) (marks new after) how
+        → Carries m limit placed (session_after what) (debugger_state m x old) (debugger_state m later new) how
     unfolding session_after
-    clear_carried n old new sets = sets_over (λ c s. clear_break c.placed n s) n (without_break n) (debugger_state m x old) (debugger_state m later new) (λ c is s. ap (λ (p : List PlacedText). clear_break p n s) is)
-        (set_carried (is_instruction placed n) n old new (without_break n) sets)
+    clear_carried what n old new is sets = of_command what (command.Clear n) (debugger_state m x old) (debugger_state m later new) how is
+        (sets_over (λ c s. clear_break c.placed n s) n (without_break n) (debugger_state m x old) (debugger_state m later new) (λ c is s. ap (λ (p : List PlacedText). clear_break p n s) is)
+        (set_carried (is_instruction placed n) n old new (without_break n) sets))
 
 -- by whether the statement is an instruction
 pub none_set : (placed : List PlacedText) (n : ℕ) (change : List ℕ → List ℕ) (old : List ℕ) (before after : Seen) (how : Sent) → is_instruction placed n ≡ false → Sends before after units.Report (no_statement_line n) how

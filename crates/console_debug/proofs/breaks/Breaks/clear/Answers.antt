@@ -1,9 +1,8 @@
 -- The mark of the statement moves to the end of the log.
-use Rattle.std.proofs.Common.{◌≡◌, ◌∙◌, ◌-◌, length, refl, sym, ap, arith}
+use Rattle.std.proofs.Common.{◌∙◌, ◌-◌, refl, sym, ap, arith}
 use Rattle.std.specs.Prelude.{slice_index_or, slice_set}
 use Rattle.std.specs.Vec.{with_item}
 use Rattle.sps_listing.specs.Listing.{placed_texts}
-use Rattle.console_debug.specs.declared.breaks.Breaks.{Breaks}
 use Rattle.console_debug.proofs.Tables.{inside_since, inside_times, read_times, counts_enough, cleared_on, tables_cleared}
 use Rattle.console_debug.proofs.breaks.Breaks.clear.Goals as goal
 
@@ -27,32 +26,15 @@ index_mut-requires-2 c =
 
 pub returns-clause-set : goal.returns-clause-set
 returns-clause-set c =
-    let new : Breaks = record {
-      statements = c.args.self.now.statements;
-      log = c.args.self.now.log;
-      since = with_item c.args.self.now.since c.args.statement c.len.result;
-      times = with_item c.args.self.now.times c.args.statement 0;
-      counts = c.lower.new.table;
-      numbers = c.args.self.now.numbers;
-    } in
-    let marked : slice_set c.args.self.now.since.items c.args.statement c.len.result ≡ slice_set c.args.self.now.since.items c.args.statement (length c.args.self.now.log.items) =
-    ap (slice_set c.args.self.now.since.items c.args.statement) (c.len.ensures ∙ c.args.self.now.log.ok.0) in
-    cleared_on (placed_texts c.args.assembled.now) c.args.self.now new c.args.statement c.in-Some.address c.requires.tables (sym c.address_of.ensures ∙ c.in-Some.is) refl marked
+    cleared_on (placed_texts c.args.assembled.now) c.args.self.now
+    (record c.args.self.now { since = with_item c.args.self.now.since c.args.statement c.len.result; times = with_item c.args.self.now.times c.args.statement 0; counts = c.lower.new.table })
+    c.args.statement c.in-Some.address c.requires.tables (sym c.address_of.ensures ∙ c.in-Some.is) refl (ap (slice_set c.args.self.now.since.items c.args.statement) (c.len.ensures ∙ c.args.self.now.log.ok.0))
 
 pub returns-clause-tables : goal.returns-clause-tables
 returns-clause-tables c =
-    let new : Breaks = record {
-      statements = c.args.self.now.statements;
-      log = c.args.self.now.log;
-      since = with_item c.args.self.now.since c.args.statement c.len.result;
-      times = with_item c.args.self.now.times c.args.statement 0;
-      counts = c.lower.new.table;
-      numbers = c.args.self.now.numbers;
-    } in
-    let marked : slice_set c.args.self.now.since.items c.args.statement c.len.result ≡ slice_set c.args.self.now.since.items c.args.statement (length c.args.self.now.log.items) =
-    ap (slice_set c.args.self.now.since.items c.args.statement) (c.len.ensures ∙ c.args.self.now.log.ok.0) in
     let read = read_times (placed_texts c.args.assembled.now) c.args.self.now c.args.self.now c.args.statement c.in-Some.address c.requires.tables (sym c.address_of.ensures ∙ c.in-Some.is) c.index.result.now c.index.ensures in
-    tables_cleared (placed_texts c.args.assembled.now) c.args.self.now new c.args.statement c.in-Some.address c.requires.tables (sym c.address_of.ensures ∙ c.in-Some.is) refl marked
+    tables_cleared (placed_texts c.args.assembled.now) c.args.self.now _ c.args.statement c.in-Some.address c.requires.tables (sym c.address_of.ensures ∙ c.in-Some.is) refl
+    (ap (slice_set c.args.self.now.since.items c.args.statement) (c.len.ensures ∙ c.args.self.now.log.ok.0))
     refl
     (c.lower.ensures ∙ ap (λ k. slice_set c.args.self.now.counts.items c.in-Some.address (slice_index_or c.args.self.now.counts.items c.in-Some.address 0 - k)) read)
     refl
