@@ -17,7 +17,8 @@ use Rattle.console_debug.specs.CursorStates.{CursorState, IsOn, IsFit, MovesOn, 
 use Rattle.console_debug.specs.Carries.{DebuggerState, debugger_state, Fails, Underway}
 use Rattle.console_debug.proofs.Courses.{led_by}
 use Rattle.console_debug.proofs.DebuggerStates.{begins, goes_on, moved}
-use Rattle.console_debug.proofs.Heading.{sets_out, next_step, step_there, within_limit, no_step}
+use Rattle.console_debug.proofs.Passing.{sets_out, within_limit}
+use Rattle.console_debug.proofs.Heading.{next_step, step_there, no_step}
 use Rattle.console_debug.proofs.KeptMoves.{would_be, starts, less, not_less, brought_there, next_there, next_machine, next_kept, next_is, next_moves}
 use Rattle.console_debug.proofs.Later.{later_on}
 use Rattle.console_debug.proofs.Onward.{steps_by, steps_acted}
@@ -107,7 +108,7 @@ module _ (m limit : ℕ) (placed : List PlacedText) (set : List ℕ) (all : ℕ)
     to_it : count < next_count → ToAStep m limit x x
     to_it step =
         let moves = next_moves m limit old on.would count behind next next_count on.there few some one count_is seen on.under.fit true (less count next_count step) in
-        step_there m limit x x (sets_out m limit x on.under.fit) (next_step m limit true x (would_be m limit old would_next next_count next seen) moves)
+        step_there m limit x x (sets_out turns_to_step m limit x on.under.fit) (next_step m limit true x (would_be m limit old would_next next_count next seen) moves)
 
     -- the line was printed
     pub steps_over : count < next_count → (after : Seen) → Sends seen after units.Report (at_line ir count) sent.Done

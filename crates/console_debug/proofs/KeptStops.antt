@@ -4,12 +4,13 @@ use Rattle.std.specs.Prelude.{IfSome, slice_get}
 use Rattle.cpu_step.specs.declared.machine.Machine.{Machine}
 use Rattle.sps_pass_two.specs.Assembled.{PlacedText}
 use Rattle.rewind_log.specs.Kept.{Kept}
-use Rattle.console_debug.specs.Places.{is_at_break}
+use Rattle.console_debug.specs.Places.{is_at_break, turns_to_stop}
 use Rattle.console_debug.specs.CursorStates.{CursorState, IsFit, MovesOn, IsThere, ToAStop, PassesOn}
 use Rattle.console_debug.proofs.Courses.{led_by}
 use Rattle.console_debug.proofs.KeptMoves.{would_be, starts, less, not_less, brought_there, next_there, next_machine, next_kept, next_is, next_moves}
 use Rattle.console_debug.proofs.Stepping.{if_some}
-use Rattle.console_debug.proofs.Stops.{sets_out, on_by, stopped_on}
+use Rattle.console_debug.proofs.Passing.{sets_out}
+use Rattle.console_debug.proofs.Stops.{on_by, stopped_on}
 
 absurd_by : {A : Type 0} → false ≡ true → A
 absurd_by is = cc
@@ -19,10 +20,10 @@ module _ (m limit : ℕ) (placed : List PlacedText) (set : List ℕ) (old : Curs
   pub record LooksOn (steps behind : ℕ) : Type 0 where
     pub would : Machine m
     pub there : IsThere m old would steps behind
-    pub passes : PassesOn m limit placed set old (would_be m limit old would steps behind old.seen)
+    pub passes : PassesOn m limit (turns_to_stop placed set) old (would_be m limit old would steps behind old.seen)
 
   pub looks_first : IsFit m limit old → LooksOn old.at.steps old.behind
-  looks_first fit = record { would = old.at.machine; there = starts m limit old; passes = sets_out placed set m limit old fit }
+  looks_first fit = record { would = old.at.machine; there = starts m limit old; passes = sets_out (turns_to_stop placed set) m limit old fit }
 
   module _ (steps behind next count : ℕ) (looks : LooksOn steps behind) (some : 0 < behind) (one : next + 1 ≡ behind)
       (count_is : IfSome (slice_get old.kept (length old.kept - behind)) (λ k. count ≡ k.steps)) where
@@ -82,6 +83,6 @@ module _ (m limit : ℕ) (placed : List PlacedText) (set : List ℕ) (old : Curs
         (stopped_on placed set m limit old x new looks.passes (told_by stops tells ∙ stop) (goes true (less steps count step)))
 
   -- none of them is one, and the last that was looked at is gone to
-  pub looks_out : (steps behind : ℕ) → LooksOn steps behind → (y : Machine m) (j : ℕ) → IsThere m old y j behind → PassesOn m limit placed set old (would_be m limit old y j behind old.seen)
+  pub looks_out : (steps behind : ℕ) → LooksOn steps behind → (y : Machine m) (j : ℕ) → IsThere m old y j behind → PassesOn m limit (turns_to_stop placed set) old (would_be m limit old y j behind old.seen)
   looks_out steps behind looks y j at =
-      brought_there m limit old (PassesOn m limit placed set old) old.seen looks.would y steps j behind looks.passes.fit.few looks.there at looks.passes
+      brought_there m limit old (PassesOn m limit (turns_to_stop placed set) old) old.seen looks.would y steps j behind looks.passes.fit.few looks.there at looks.passes

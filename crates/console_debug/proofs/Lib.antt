@@ -8,6 +8,7 @@ pub mod Later
 pub mod Stepping
 pub mod Looking
 pub mod StoredCells
+pub mod Passing
 pub mod Heading
 pub mod Stops
 pub mod KeptMoves

@@ -15,7 +15,7 @@ use Rattle.rewind_log.specs.Kept.{most_places}
 use Rattle.console_debug.specs.Lines.{at_line, break_line, ending_line, no_back_line}
 use Rattle.console_debug.specs.Places.{turns_to_stop}
 use Rattle.console_debug.specs.Session.{Course, Session, nth_place, places_ahead, says, place_line, end_line, to_stop, go, back, session_events}
-use Rattle.console_debug.specs.CursorStates.{CursorState, IsFit, ToAStop, ToTheLast, BreaksBefore, GoesBack, StaysThere}
+use Rattle.console_debug.specs.CursorStates.{CursorState, IsFit, ToAStop, ToTheEnd, BreaksOnTheWay, GoesBack, StaysThere}
 use Rattle.console_debug.specs.Carries.{debugger_state, IsOver, Fails, Carries}
 use Rattle.console_debug.proofs.Onward.{MakesTurns, stop_makes}
 use Rattle.console_debug.proofs.DebuggerStates.{attends_frames, said, ir_here, mode_here, steps_here, ends_with, moved, broke, broken_at}
@@ -78,7 +78,7 @@ module _ (m limit : ℕ) (placed : List PlacedText) (set : List ℕ) (old mid : 
       (break_said m limit placed mid set after to.fit how sends)
 
   -- the line of the end, by its ending
-  pub ran_out : (ends : Ending) (after : Seen) (how : Sent) → ToTheLast m limit placed set ends old mid → Sends mid.seen after units.Report (ending_line ends mid.at.steps) how
+  pub ran_out : (ends : Ending) (after : Seen) (how : Sent) → ToTheEnd m limit (turns_to_stop placed set) ends old mid → Sends mid.seen after units.Report (ending_line ends mid.at.steps) how
       → Carries m limit placed go (debugger_state m old set) (debugger_state m (record mid { seen = after }) set) how
   ran_out ends after how to sends =
       ends_with m limit placed go says_end (debugger_state m old set) (debugger_state m mid set) (debugger_state m (record mid { seen = after }) set) how
@@ -87,7 +87,7 @@ module _ (m limit : ℕ) (placed : List PlacedText) (set : List ℕ) (old mid : 
       (end_said m limit placed mid set after to.fit ends how to.ending sends)
 
   -- the host failed before
-  pub broke_off : BreaksBefore m limit placed set old mid → Fails m limit placed go (debugger_state m old set) (debugger_state m mid set)
+  pub broke_off : BreaksOnTheWay m limit (turns_to_stop placed set) old mid → Fails m limit placed go (debugger_state m old set) (debugger_state m mid set)
   broke_off fails = broke m limit placed go old mid set fails.frames fails.rose
       (λ c over s are on_it.
       let at = fails.told c s.at s.furthest over.limit_is on_it in

@@ -118,7 +118,7 @@ module _ (m limit : ℕ) (placed : List PlacedText) (set : List ℕ) (f : Course
       (led.0, led.2, steps_by c n s ∙ ap (step_by c n s) led.1)))
 
   -- no step comes any more
-  pub stepped_out : (ends : Ending) (after : Seen) (how : Sent) → ToTheEnd m limit ends old mid → Sends mid.seen after units.Report (ending_line ends mid.at.steps) how
+  pub stepped_out : (ends : Ending) (after : Seen) (how : Sent) → ToTheEnd m limit turns_to_step ends old mid → Sends mid.seen after units.Report (ending_line ends mid.at.steps) how
       → Carries m limit placed f first (debugger_state m (record mid { seen = after }) set) how
   stepped_out ends after how to sends =
       let last = debugger_state m (record mid { seen = after }) set in
@@ -131,7 +131,7 @@ module _ (m limit : ℕ) (placed : List PlacedText) (set : List ℕ) (f : Course
       (end_said m limit placed mid set after to.fit ends how to.ending sends))
 
   -- the host failed before the step
-  pub step_broke : BreaksOnTheWay m limit old mid → Fails m limit placed f first there
+  pub step_broke : BreaksOnTheWay m limit turns_to_step old mid → Fails m limit placed f first there
   step_broke fails = ends_with m limit placed f (steps (suc n)) first here there sent.Failed under_one
       (broke m limit placed (steps (suc n)) old mid set fails.frames fails.rose
       (λ c over s are on_it.

@@ -18,7 +18,6 @@ use Rattle.cpu_step.specs.Machine.{is_faulted, is_read, is_written, Frames, stat
 use Rattle.cpu_step.specs.Stores.{ShowsTheSame}
 use Rattle.cpu_step.proofs.Exact.{state_is}
 use Rattle.operator_script.specs.declared.turns.Ending.{Ending}
-use Rattle.operator_script.specs.declared.turns.Ending.TheVariants as ending
 use Rattle.operator_script.specs.declared.turns.TurnEnd.TheVariants as end
 use Rattle.operator_script.specs.Turn.{RunPlace, Turning, turn, place_after, IsCutTurn, ending_at, ending_of}
 use Rattle.operator_script.specs.Run.{RunState, run_state, moment_at, place_with, place_of, StandsAt, Moves, Rests, BreaksTurn, Turns}

@@ -17,7 +17,7 @@ use Rattle.operator_script.specs.Run.{RunState, run_state, standing_of, IsSameRu
 use Rattle.sps_pass_two.specs.Assembled.{PlacedText}
 use Rattle.rewind_log.specs.Kept.{Kept, machine_at, newest, most_places}
 use Rattle.console_debug.specs.declared.walking.Cursor.{Cursor}
-use Rattle.console_debug.specs.Places.{turns_to_stop, turns_to_step}
+use Rattle.console_debug.specs.Places.{Reached, turns_to_stop, turns_to_step}
 use Rattle.console_debug.specs.Session.{Course, nth_place, places_ahead, place_as_seen}
 
 -- the machine with its script and the count of its place, the kept places, how many of them lie behind the place where
@@ -168,22 +168,15 @@ pub record AreStoredWords (m : ℕ) (before after : List ℕ) (from to : ℕ) : 
   pub room : to ≤ m * 2000
   pub outside : AgreeOutside before after (10 * from) (10 * to)
 
--- To the place of the next step, or to the end of the run.
+-- To the first of the places ahead that is looked for, or to the end of the run: how many turns lead to it is said by `turns_to`.
 
 -- it was led so many turns on
 abbrev pub IsLed : (m : ℕ) → Course → ℕ → ℕ → ℕ → CursorState m → Type 0
 IsLed m c n f turns new = IsOn m c (n + turns) (max f (n + turns)) new
 
-pub record ToAStep (m limit : ℕ) (old new : CursorState m) : Type 0 where
+pub record ToTheEnd (m limit : ℕ) (turns_to : List Reached → Option ℕ) (how : Ending) (old new : CursorState m) : Type 0 where
   pub told : (c : Course) (n f : ℕ) → c.limit ≡ limit → IsOn m c n f old
-      → (turns : ℕ) × (turns_to_step (places_ahead c n) ≡ Some turns) × IsLed m c n f turns new
-  pub next : IsStepAhead m limit new true
-  pub fit : IsFit m limit new
-  pub frames : Frames m old.at.machine new.at.machine old.seen new.seen
-
-pub record ToTheEnd (m limit : ℕ) (how : Ending) (old new : CursorState m) : Type 0 where
-  pub told : (c : Course) (n f : ℕ) → c.limit ≡ limit → IsOn m c n f old
-      → (turns_to_step (places_ahead c n) ≡ None) × IsLed m c n f (length (places_ahead c n)) new
+      → (turns_to (places_ahead c n) ≡ None) × IsLed m c n f (length (places_ahead c n)) new
   pub ending : how ≡ ending_at new.at.machine.mode new.at.machine.regs.ir
   pub fit : IsFit m limit new
   pub frames : Frames m old.at.machine new.at.machine old.seen new.seen
@@ -194,21 +187,43 @@ turns_or_all None all = all
 turns_or_all (Some turns) all = turns
 
 -- the host failed in one of these turns
-pub record BreaksOnTheWay (m limit : ℕ) (old new : CursorState m) : Type 0 where
+pub record BreaksOnTheWay (m limit : ℕ) (turns_to : List Reached → Option ℕ) (old new : CursorState m) : Type 0 where
   pub told : (c : Course) (n f : ℕ) → c.limit ≡ limit → IsOn m c n f old
-      → (turns : ℕ) × (turns < turns_or_all (turns_to_step (places_ahead c n)) (length (places_ahead c n))) × (f ≤ n + turns)
+      → (turns : ℕ) × (turns < turns_or_all (turns_to (places_ahead c n)) (length (places_ahead c n))) × (f ≤ n + turns)
       × ((q : RunPlace) × (place_of m new.at new.seen.world ≡ Some q) × IsCutTurn limit (nth_place c (n + turns)) q)
   pub within : new.at.steps ≤ limit
   pub rose : Rose old.seen.faults new.seen.faults
   pub frames : Frames m old.at.machine new.at.machine old.seen new.seen
 
+-- it was led so many turns on, none of which led there
+pub record IsLedOn (m : ℕ) (turns_to : List Reached → Option ℕ) (c : Course) (n f : ℕ) (now : CursorState m) : Type 0 where
+  pub turns : ℕ
+  pub on_it : IsLed m c n f turns now
+  pub ahead : turns_to (places_ahead c n) ≡ option_map (λ k. turns + k) (turns_to (places_ahead c (n + turns)))
+  pub all : length (places_ahead c n) ≡ turns + length (places_ahead c (n + turns))
+
+-- it was led on, and no such place was on the way
+pub record PassesOn (m limit : ℕ) (turns_to : List Reached → Option ℕ) (first now : CursorState m) : Type 0 where
+  pub told : (c : Course) (n f : ℕ) → c.limit ≡ limit → IsOn m c n f first → IsLedOn m turns_to c n f now
+  pub fit : IsFit m limit now
+  pub frames : Frames m first.at.machine now.at.machine first.seen now.seen
+
+-- To the place of the next step.
+
+pub record ToAStep (m limit : ℕ) (old new : CursorState m) : Type 0 where
+  pub told : (c : Course) (n f : ℕ) → c.limit ≡ limit → IsOn m c n f old
+      → (turns : ℕ) × (turns_to_step (places_ahead c n) ≡ Some turns) × IsLed m c n f turns new
+  pub next : IsStepAhead m limit new true
+  pub fit : IsFit m limit new
+  pub frames : Frames m old.at.machine new.at.machine old.seen new.seen
+
 -- WHAT THE MOVES TO A STEP DO
 abbrev pub ToStep : (m limit : ℕ) → CursorState m → CursorState m → Option Ending → Type 0
 ToStep m limit old new None = ToAStep m limit old new
-ToStep m limit old new (Some ending.Failed) = BreaksOnTheWay m limit old new
-ToStep m limit old new (Some how) = ToTheEnd m limit how old new
+ToStep m limit old new (Some ending.Failed) = BreaksOnTheWay m limit turns_to_step old new
+ToStep m limit old new (Some how) = ToTheEnd m limit turns_to_step how old new
 
--- To the next stop, or to the end.
+-- To the next stop.
 
 pub record ToAStop (m limit : ℕ) (placed : List PlacedText) (breaks : List ℕ) (old new : CursorState m) : Type 0 where
   pub told : (c : Course) (n f : ℕ) → c.limit ≡ limit → IsOn m c n f old
@@ -216,45 +231,13 @@ pub record ToAStop (m limit : ℕ) (placed : List PlacedText) (breaks : List ℕ
   pub fit : IsFit m limit new
   pub frames : Frames m old.at.machine new.at.machine old.seen new.seen
 
-pub record ToTheLast (m limit : ℕ) (placed : List PlacedText) (breaks : List ℕ) (how : Ending) (old new : CursorState m) : Type 0 where
-  pub told : (c : Course) (n f : ℕ) → c.limit ≡ limit → IsOn m c n f old
-      → (turns_to_stop placed breaks (places_ahead c n) ≡ None) × IsLed m c n f (length (places_ahead c n)) new
-  pub ending : how ≡ ending_at new.at.machine.mode new.at.machine.regs.ir
-  pub fit : IsFit m limit new
-  pub frames : Frames m old.at.machine new.at.machine old.seen new.seen
-
-pub record BreaksBefore (m limit : ℕ) (placed : List PlacedText) (breaks : List ℕ) (old new : CursorState m) : Type 0 where
-  pub told : (c : Course) (n f : ℕ) → c.limit ≡ limit → IsOn m c n f old
-      → (turns : ℕ) × (turns < turns_or_all (turns_to_stop placed breaks (places_ahead c n)) (length (places_ahead c n)))
-      × (f ≤ n + turns)
-      × ((q : RunPlace) × (place_of m new.at new.seen.world ≡ Some q) × IsCutTurn limit (nth_place c (n + turns)) q)
-  pub within : new.at.steps ≤ limit
-  pub rose : Rose old.seen.faults new.seen.faults
-  pub frames : Frames m old.at.machine new.at.machine old.seen new.seen
-
 -- WHAT THE MOVES TO A STOP DO
 abbrev pub ToStop : (m limit : ℕ) → List PlacedText → List ℕ → CursorState m → CursorState m → Option Ending → Type 0
 ToStop m limit placed breaks old new None = ToAStop m limit placed breaks old new
-ToStop m limit placed breaks old new (Some ending.Failed) = BreaksBefore m limit placed breaks old new
-ToStop m limit placed breaks old new (Some how) = ToTheLast m limit placed breaks how old new
+ToStop m limit placed breaks old new (Some ending.Failed) = BreaksOnTheWay m limit (turns_to_stop placed breaks) old new
+ToStop m limit placed breaks old new (Some how) = ToTheEnd m limit (turns_to_stop placed breaks) how old new
 
--- Over the places that are kept.
-
--- it was led so many turns on, none of which led to a stop
-pub record IsLedOn (m : ℕ) (placed : List PlacedText) (breaks : List ℕ) (c : Course) (n f : ℕ) (now : CursorState m) : Type 0 where
-  pub turns : ℕ
-  pub on_it : IsLed m c n f turns now
-  pub stop : turns_to_stop placed breaks (places_ahead c n)
-      ≡ option_map (λ k. turns + k) (turns_to_stop placed breaks (places_ahead c (n + turns)))
-  pub all : length (places_ahead c n) ≡ turns + length (places_ahead c (n + turns))
-
--- it was led on, and no stop was on the way
-pub record PassesOn (m limit : ℕ) (placed : List PlacedText) (breaks : List ℕ) (first now : CursorState m) : Type 0 where
-  pub told : (c : Course) (n f : ℕ) → c.limit ≡ limit → IsOn m c n f first → IsLedOn m placed breaks c n f now
-  pub fit : IsFit m limit now
-  pub frames : Frames m first.at.machine now.at.machine first.seen now.seen
-
--- to the first stop among them, or as far as they lead
+-- over the places that are kept, to the first stop among them, or as far as they lead
 abbrev pub ToKeptStop : (m limit : ℕ) → List PlacedText → List ℕ → CursorState m → CursorState m → Bool → Type 0
 ToKeptStop m limit placed breaks old new true = ToAStop m limit placed breaks old new
-ToKeptStop m limit placed breaks old new false = PassesOn m limit placed breaks old new
+ToKeptStop m limit placed breaks old new false = PassesOn m limit (turns_to_stop placed breaks) old new

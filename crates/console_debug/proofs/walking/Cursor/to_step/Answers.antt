@@ -1,15 +1,17 @@
 -- Moves up to the next step.
 use Rattle.std.proofs.Common.{refl, sym, ◌∙◌, subst}
 use Rattle.std.specs.Prelude.{Some}
+use Rattle.console_debug.specs.Places.{turns_to_step}
 use Rattle.console_debug.specs.CursorStates.{ToStep, cursor_state_of}
-use Rattle.console_debug.proofs.Heading.{sets_out, moves_on, ends_on, step_there}
+use Rattle.console_debug.proofs.Passing.{sets_out}
+use Rattle.console_debug.proofs.Heading.{moves_on, ends_on, step_there}
 use Rattle.console_debug.proofs.walking.Cursor.to_step.Goals as goal
 
 pub loop-self-init : goal.loop-self-init
 loop-self-init g c = record {
   same = ((refl, refl, refl), refl);
   furthest = c.requires.furthest;
-  heads = sets_out g.row.M c.args.self.now.run.limit (cursor_state_of g.row.M c.args.self.now (g.H.Host.seen c.args.host.now)) c.requires.fit;
+  heads = sets_out turns_to_step g.row.M c.args.self.now.run.limit (cursor_state_of g.row.M c.args.self.now (g.H.Host.seen c.args.host.now)) c.requires.fit;
 }
 
 pub returns-then-is_step_ahead-clause-steps : goal.returns-then-is_step_ahead-clause-steps
