@@ -14,7 +14,7 @@ use Rattle.operator_script.specs.Scripts.{IsLine, lines_left}
 use Rattle.operator_script.specs.Turn.{RunPlace, place_after, last_within}
 use Rattle.operator_script.specs.Run.{run_state, moment, place_of}
 use Rattle.sps_pass_two.specs.Assembled.{PlacedText}
-use Rattle.rewind_log.specs.Kept.{Kept, place_of_machine}
+use Rattle.rewind_log.specs.Kept.{Kept, place_of_machine, places_with}
 use Rattle.console_debug.specs.declared.commands.DebugCommand.{DebugCommand}
 use Rattle.console_debug.specs.Grammar.{is_break}
 use Rattle.console_debug.specs.Session.{Course, Session, session_after, is_quit, session_of, at_first}
@@ -85,6 +85,9 @@ if_told P None holds = tt
 if_told P (Some x) holds = holds x refl
 
 -- Before the first command the first place is kept.
+
+pub first_kept : (m : ℕ) (machine : Machine m) (old kept : List Kept) → kept ≡ places_with old (place_of_machine m machine 0) → old ≡ [] → kept ≡ place_of_machine m machine 0 ∷ []
+first_kept m machine old kept is none = is ∙ ap (λ (ks : List Kept). places_with ks (place_of_machine m machine 0)) none
 
 module _ (m limit : ℕ) (placed : List PlacedText) (machine : Machine m) (script : Script) (seen : Seen) where
   abbrev pub first_cursor_state : CursorState m

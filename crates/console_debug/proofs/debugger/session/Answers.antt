@@ -1,20 +1,20 @@
 -- The first place is kept before the first command, and the breakpoints that are set behind the last.
-use Rattle.std.proofs.Common.{◌≡◌, ◌∙◌, ℕ, ◌∷◌, All, List, [], count_by, lit<, rules, sym, ap, subst, arith}
+use Rattle.std.proofs.Common.{◌≡◌, ℕ, ◌∷◌, All, List, [], count_by, lit<, rules, sym, ap, subst, arith}
 use Rattle.std.proofs.lemmas.Grind.{common_steps}
 use Rattle.digit_core.specs.Size.{size}
 use Rattle.outside_io.specs.declared.whole.Sent.TheVariants as sent
 use Rattle.outside_io.specs.World.{Seen}
 use Rattle.cpu_step.specs.declared.machine.Machine.{Machine}
 use Rattle.operator_script.specs.declared.script.Script.{Script}
-use Rattle.operator_script.specs.Run.{Moment, moment}
+use Rattle.operator_script.specs.Run.{Moment}
 use Rattle.sps_listing.specs.Listing.{placed_texts}
-use Rattle.rewind_log.specs.Kept.{Kept, place_of_machine, places_with}
+use Rattle.rewind_log.specs.Kept.{Kept, place_of_machine}
 use Rattle.console_debug.specs.CommandLists.{IsCommand, command_list}
 use Rattle.console_debug.specs.Grammar.{is_break}
 use Rattle.console_debug.specs.CursorStates.{IsFit, cursor_state}
 use Rattle.console_debug.specs.Carries.{debugger_state_of}
-use Rattle.console_debug.specs.Debugs.{SessionTask, task, without_count, EndsSession, BreaksSession}
-use Rattle.console_debug.proofs.WholeSessions.{first_fit, from_first, session_ended, session_broke}
+use Rattle.console_debug.specs.Debugs.{SessionTask, without_count, EndsSession, BreaksSession}
+use Rattle.console_debug.proofs.WholeSessions.{first_kept, first_fit, from_first, session_ended, session_broke}
 use Rattle.console_debug.proofs.debugger.session.Goals as goal
 
 -- machine, script and breakpoints at the end are those of the debugger
@@ -36,7 +36,7 @@ carry_out_all-sent-requires g c =
     let cleared = c.clear_all.ensures in
     let list = c.deref.ensures.value in
     let count = ap (count_by is_break) list in
-    let one : c.keep.new.self ≡ place_of_machine m machine 0 ∷ [] = c.keep.ensures ∙ ap (λ (ks : List Kept). places_with ks (place_of_machine m machine 0)) c.requires.empty in (
+    let one : c.keep.new.self ≡ place_of_machine m machine 0 ∷ [] = first_kept m machine _ _ c.keep.ensures c.requires.empty in (
       lit< tt,
       (
         record {
@@ -56,37 +56,21 @@ carry_out_all-sent-requires g c =
 
 pub returns-in-Done-clause-does : goal.returns-in-Done-clause-does
 returns-in-Done-clause-does g c =
-    let m = g.row.M in
-    let limit = c.args.limit in
-    let placed = placed_texts c.args.assembled.now in
-    let machine = c.args.machine.now in
-    let script = c.args.script.now in
-    let seen = g.H.Host.seen c.args.host.now in
-    let whole = command_list c.args.commands.now in
-    let next = debugger_state_of m c.carry_out_all-sent.new.self (g.H.Host.seen c.carry_out_all-sent.new.host) in
+    let next = debugger_state_of g.row.M c.carry_out_all-sent.new.self (g.H.Host.seen c.carry_out_all-sent.new.host) in
     let kept = c.carry_out_all-sent.ensures.same in
-    let one : c.keep.new.self ≡ place_of_machine m machine 0 ∷ [] = c.keep.ensures ∙ ap (λ (ks : List Kept). places_with ks (place_of_machine m machine 0)) c.requires.empty in
-    ends_as m (task limit placed whole) (moment m machine script 0 seen) next.cursor_state.at.machine _ next.cursor_state.at.script _ next.cursor_state.seen next.breaks _
+    ends_as g.row.M _ _ next.cursor_state.at.machine _ next.cursor_state.at.script _ next.cursor_state.seen next.breaks _
     (first_of (search (rules, kept.0.0.0), cc, assumption kept.0.0.0, grind (arith, common_steps, kept.0.0.0)))
     (first_of (search (rules, kept.0.0.1), cc, assumption kept.0.0.1, grind (arith, common_steps, kept.0.0.1)))
     c.settle.ensures.statements
-    (session_ended m limit placed machine script seen whole next.cursor_state next.breaks
-    (from_first m limit placed machine script seen _ _ _ whole next sent.Done one c.clear_all.ensures.none_set c.deref.ensures.value c.in-Done.ensures.carries))
+    (session_ended g.row.M c.args.limit (placed_texts c.args.assembled.now) c.args.machine.now c.args.script.now (g.H.Host.seen c.args.host.now) (command_list c.args.commands.now) next.cursor_state next.breaks
+    (from_first _ _ _ _ _ _ _ _ _ _ next sent.Done (first_kept g.row.M c.args.machine.now _ _ c.keep.ensures c.requires.empty) c.clear_all.ensures.none_set c.deref.ensures.value c.in-Done.ensures.carries))
 
 pub returns-in-Failed-clause-does : goal.returns-in-Failed-clause-does
 returns-in-Failed-clause-does g c =
-    let m = g.row.M in
-    let limit = c.args.limit in
-    let placed = placed_texts c.args.assembled.now in
-    let machine = c.args.machine.now in
-    let script = c.args.script.now in
-    let seen = g.H.Host.seen c.args.host.now in
-    let whole = command_list c.args.commands.now in
-    let next = debugger_state_of m c.carry_out_all-sent.new.self (g.H.Host.seen c.carry_out_all-sent.new.host) in
+    let next = debugger_state_of g.row.M c.carry_out_all-sent.new.self (g.H.Host.seen c.carry_out_all-sent.new.host) in
     let kept = c.carry_out_all-sent.ensures.same in
-    let one : c.keep.new.self ≡ place_of_machine m machine 0 ∷ [] = c.keep.ensures ∙ ap (λ (ks : List Kept). places_with ks (place_of_machine m machine 0)) c.requires.empty in
-    breaks_as m (task limit placed whole) (moment m machine script 0 seen) next.cursor_state.at.machine _ next.cursor_state.at.script _ next.cursor_state.seen
+    breaks_as g.row.M _ _ next.cursor_state.at.machine _ next.cursor_state.at.script _ next.cursor_state.seen
     (first_of (search (rules, kept.0.0.0), cc, assumption kept.0.0.0, grind (arith, common_steps, kept.0.0.0)))
     (first_of (search (rules, kept.0.0.1), cc, assumption kept.0.0.1, grind (arith, common_steps, kept.0.0.1)))
-    (session_broke m limit placed machine script seen whole next.cursor_state next.breaks
-    (from_first m limit placed machine script seen _ _ _ whole next sent.Failed one c.clear_all.ensures.none_set c.deref.ensures.value c.in-Failed.ensures.carries))
+    (session_broke g.row.M c.args.limit (placed_texts c.args.assembled.now) c.args.machine.now c.args.script.now (g.H.Host.seen c.args.host.now) (command_list c.args.commands.now) next.cursor_state next.breaks
+    (from_first _ _ _ _ _ _ _ _ _ _ next sent.Failed (first_kept g.row.M c.args.machine.now _ _ c.keep.ensures c.requires.empty) c.clear_all.ensures.none_set c.deref.ensures.value c.in-Failed.ensures.carries))
