@@ -3,11 +3,9 @@
 use Rattle.std.specs.Prelude.{ℕ, ◌&&◌, ◌==◌, nat_le, List, ◌++◌, if◌then◌else◌, codes, decimal, encode_utf8}
 use Rattle.message_hints.specs.declared.line_hints.LineHint.{LineHint}
 use Rattle.message_hints.specs.declared.line_hints.LineHint.TheVariants.{Byte, Wide, Length}
-use Rattle.message_hints.specs.declared.line_hints.TheConstants.{CHARACTERS}
 use Rattle.message_hints.specs.Escapes.{cell_text}
 
--- a byte that is no character of the assembler, in a column: a tab, a small letter, a bar or another one. The code's text `CHARACTERS` names
--- the assembler's characters. They are those of `is_allowed` of `sps_scan`; that the text names these and no others, no clause says.
+-- a byte that is no character of the assembler, in a column: a tab, a small letter, a bar or another one
 abbrev pub byte_text : ℕ → ℕ → List ℕ
 byte_text byte column =
     if byte == 9
@@ -17,7 +15,7 @@ byte_text byte column =
     else if byte == 124
     then codes "ibm1620: a | in column " ++ decimal column ++ codes ": a source has @ for the record mark\n"
     else codes "ibm1620: a byte " ++ cell_text byte ++ codes " in column " ++ decimal column
-    ++ codes ": write " ++ CHARACTERS.now ++ codes "\n"
+    ++ codes ": write blanks, A to Z, 0 to 9 or . ) + $ * - / , ( = @\n"
 
 -- a character of several bytes that is none, from a column on; a no-break space, 160, looks like a blank
 abbrev pub wide_text : ℕ → ℕ → List ℕ
@@ -25,7 +23,7 @@ wide_text character column =
     if character == 160
     then codes "ibm1620: a no-break space in column " ++ decimal column ++ codes ": write a blank\n"
     else codes "ibm1620: the character " ++ encode_utf8 character ++ codes " in column " ++ decimal column
-    ++ codes ": write " ++ CHARACTERS.now ++ codes "\n"
+    ++ codes ": write blanks, A to Z, 0 to 9 or . ) + $ * - / , ( = @\n"
 
 -- a hint on a line
 abbrev pub line_hint_text : LineHint → List ℕ

@@ -6,11 +6,6 @@ ghost use Rattle.message_hints.specs.Lines.{byte_text, wide_text, line_hint_text
 use crate::escapes::Cell;
 use std::fmt;
 
-/// The characters of the assembler, in words.
-///
-/// Source: SPS manual, coding sheet; which there are is this project's own.
-pub const CHARACTERS: &str = "blanks, A to Z, 0 to 9 or . ) + $ * - / , ( = @";
-
 /// A hint on a line by the rule 1 or 2 that it breaks.
 ///
 /// Source: this project's own.
@@ -70,7 +65,8 @@ fn write_byte<W: fmt::Write>(f: &mut fmt::Formatter<W>, byte: u8, column: usize)
     } else {
         write!(
             f,
-            "ibm1620: a byte {cell} in column {column}: write {CHARACTERS}\n"
+            "ibm1620: a byte {cell} in column {column}: \
+             write blanks, A to Z, 0 to 9 or . ) + $ * - / , ( = @\n"
         )
     }
 }
@@ -91,7 +87,8 @@ fn write_wide<W: fmt::Write>(
     } else {
         write!(
             f,
-            "ibm1620: the character {character} in column {column}: write {CHARACTERS}\n"
+            "ibm1620: the character {character} in column {column}: \
+             write blanks, A to Z, 0 to 9 or . ) + $ * - / , ( = @\n"
         )
     }
 }
