@@ -1,9 +1,8 @@
 -- Tables one behind another, and tables of other values.
 use Rattle.std.proofs.Common.{◌≡◌, ◌∙◌, ℕ, true, false, List, [], ◌∷◌, ◌++◌, map, Some, bytes_eq, if◌then◌else◌, refl}
 use Rattle.std.specs.Option.{option_map, option_or}
-use Rattle.sps_ops.specs.declared.operation.Operation.TheVariants.{Declare}
 use Rattle.line_words.specs.Rows.{Row, value_by_name, with_values}
-use Rattle.sps_ops.specs.Operations.{mnemonics, unique_mnemonics, declaratives, by_digits, opcodes, plain, whole, operations}
+use Rattle.sps_ops.specs.Operations.{mnemonics, unique_mnemonics, declaratives, by_digits, opcodes, plain, whole, declared, operations}
 
 -- a name is in the first of two tables that has it
 value_in-append : {A : Type 0} (xs ys : List (Row A)) (name : List ℕ) → value_by_name (xs ++ ys) name ≡ option_or (value_by_name xs name) (value_by_name ys name)
@@ -28,7 +27,7 @@ pub opcode_by_table : (name : List ℕ) → value_by_name opcodes name ≡ optio
 opcode_by_table name = value_in-append mnemonics (map by_digits mnemonics) name
 
 -- an operation is an instruction by its opcode or by a unique mnemonic, or else a declarative
-pub operation_by_table : (name : List ℕ) → value_by_name operations name ≡ option_or (option_map plain (value_by_name opcodes name)) (option_or (option_map whole (value_by_name unique_mnemonics name)) (option_map Declare (value_by_name declaratives name)))
+pub operation_by_table : (name : List ℕ) → value_by_name operations name ≡ option_or (option_map plain (value_by_name opcodes name)) (option_or (option_map whole (value_by_name unique_mnemonics name)) (option_map declared (value_by_name declaratives name)))
 operation_by_table name =
-    value_in-append (with_values plain opcodes) (with_values whole unique_mnemonics ++ with_values Declare declaratives) name
-    ∙ rw (value_in-append (with_values whole unique_mnemonics) (with_values Declare declaratives) name, value_in-with_values plain opcodes name, value_in-with_values whole unique_mnemonics name, value_in-with_values Declare declaratives name)
+    value_in-append (with_values plain opcodes) (with_values whole unique_mnemonics ++ with_values declared declaratives) name
+    ∙ rw (value_in-append (with_values whole unique_mnemonics) (with_values declared declaratives) name, value_in-with_values plain opcodes name, value_in-with_values whole unique_mnemonics name, value_in-with_values declared declaratives name)

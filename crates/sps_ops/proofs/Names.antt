@@ -6,10 +6,9 @@ use Rattle.std.proofs.lemmas.Slice.Eq.{bytes_eq-Decides}
 use Rattle.std.proofs.lemmas.List.Elements.{Contains-append_left, Contains-append_right}
 use Rattle.instruction_table.specs.declared.InstructionRow.{InstructionRow}
 use Rattle.sps_ops.specs.declared.operation.Operation.{Operation}
-use Rattle.sps_ops.specs.declared.operation.Operation.TheVariants.{Declare}
-use Rattle.sps_ops.specs.declared.operation.Declarative.{Declarative}
+use Rattle.sps_ops.specs.declared.table.DeclarativeRow.{DeclarativeRow}
 use Rattle.line_words.specs.Rows.{Row, row_from_table, value_by_name, with_values}
-use Rattle.sps_ops.specs.Operations.{operations, opcodes, by_digits, mnemonics, unique_mnemonics, declaratives, plain, whole}
+use Rattle.sps_ops.specs.Operations.{operations, opcodes, by_digits, mnemonics, unique_mnemonics, declaratives, plain, whole, declared}
 
 -- each name stands once
 abbrev pub names_once : {A : Type 0} → List (Row A) → Bool
@@ -69,14 +68,14 @@ by_opcode = with_values plain opcodes
 abbrev by_whole : List (Row Operation)
 by_whole = with_values whole unique_mnemonics
 
-abbrev declared : List (Row Operation)
-declared = with_values Declare declaratives
+abbrev by_declared : List (Row Operation)
+by_declared = with_values declared declaratives
 
 -- the operation of a mnemonic
 pub by_mnemonic : (name : List ℕ) (i : InstructionRow) → Contains mnemonics (record { name = name; value = i }) → value_by_name operations name ≡ Some (plain i)
 by_mnemonic name i c =
     let r : Row Operation = record { name = name; value = plain i } in
-    operation_found r (Contains-append_left by_opcode (by_whole ++ declared) r
+    operation_found r (Contains-append_left by_opcode (by_whole ++ by_declared) r
     (made plain opcodes (record { name = name; value = i })
     (Contains-append_left mnemonics (map by_digits mnemonics) (record { name = name; value = i }) c)))
 
@@ -84,17 +83,17 @@ by_mnemonic name i c =
 pub by_unique : (name : List ℕ) (u : ℕ × ℕ) → Contains unique_mnemonics (record { name = name; value = u }) → value_by_name operations name ≡ Some (whole u)
 by_unique name u c =
     let r : Row Operation = record { name = name; value = whole u } in
-    operation_found r (Contains-append_right by_opcode (by_whole ++ declared) r
-    (Contains-append_left by_whole declared r
+    operation_found r (Contains-append_right by_opcode (by_whole ++ by_declared) r
+    (Contains-append_left by_whole by_declared r
     (made whole unique_mnemonics (record { name = name; value = u }) c)))
 
 -- of a declarative
-pub by_declarative : (name : List ℕ) (d : Declarative) → Contains declaratives (record { name = name; value = d }) → value_by_name operations name ≡ Some (Declare d)
+pub by_declarative : (name : List ℕ) (d : DeclarativeRow) → Contains declaratives (record { name = name; value = d }) → value_by_name operations name ≡ Some (declared d)
 by_declarative name d c =
-    let r : Row Operation = record { name = name; value = Declare d } in
-    operation_found r (Contains-append_right by_opcode (by_whole ++ declared) r
-    (Contains-append_right by_whole declared r
-    (made Declare declaratives (record { name = name; value = d }) c)))
+    let r : Row Operation = record { name = name; value = declared d } in
+    operation_found r (Contains-append_right by_opcode (by_whole ++ by_declared) r
+    (Contains-append_right by_whole by_declared r
+    (made declared declaratives (record { name = name; value = d }) c)))
 
 pub ruleset by_row = (by_mnemonic, by_unique, by_declarative)
 

@@ -1,27 +1,21 @@
 -- How many parts the operands of a statement have at most, by its operation.
 -- Source: SPS manual, coding sheet and declarative operations; the numbers are this project's own.
-use Rattle.std.specs.Prelude.{ℕ, Option, Some, None}
+use Rattle.std.specs.Prelude.{ℕ, List, [], ◌∷◌, map, Option, Some, if◌then◌else◌}
 use Rattle.sps_ops.specs.declared.operation.Operation.{Operation}
 use Rattle.sps_ops.specs.declared.operation.Operation.TheVariants.{Declare}
 use Rattle.sps_ops.specs.declared.operation.Declarative.{Declarative}
-use Rattle.sps_ops.specs.declared.operation.Declarative.TheVariants.{Ds, Dss, Das, Dc, Dsc, Dac, Dsa, Dsb, Dnb, Dgm, Dda, Dorg, Dend, Head}
+use Rattle.sps_ops.specs.contracts.operation.DeclarativePartialEq.TheImpl.{ghosts}
+use Rattle.sps_ops.specs.declared.table.DeclarativeRow.{DeclarativeRow}
+use Rattle.sps_ops.specs.declared.table.TheConstants.{DECLARATIVES}
 
--- THE TABLE: the parts of a declarative
+-- the parts in the first row of a declarative, 0 where it has none; `ghosts.eq` is the `==` of declaratives
+abbrev pub parts_in : List DeclarativeRow → Declarative → ℕ
+parts_in [] d = 0
+parts_in (r ∷ rs) d = if ghosts.eq r.0 d then r.1 else parts_in rs d
+
+-- the parts of a declarative, as the table of declaratives has them
 abbrev pub parts_declared : Declarative → ℕ
-parts_declared Ds = 2
-parts_declared Dss = 2
-parts_declared Das = 2
-parts_declared Dc = 3
-parts_declared Dsc = 3
-parts_declared Dac = 3
-parts_declared Dsa = 10
-parts_declared Dsb = 3
-parts_declared Dnb = 2
-parts_declared Dgm = 1
-parts_declared Dda = 4
-parts_declared Dorg = 1
-parts_declared Dend = 1
-parts_declared Head = 3
+parts_declared d = parts_in (map (λ r. r.1) DECLARATIVES) d
 
 -- the parts of any operation; an instruction has three, and so has a text that is the name of none
 abbrev pub most_parts : Option Operation → ℕ

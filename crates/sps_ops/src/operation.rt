@@ -2,6 +2,8 @@
 ghost use Rattle.std.specs.Prelude.{◌≡◌, ◌≤◌};
 ghost use Rattle.sps_ops.specs.Parts.{parts_declared, most_parts};
 
+use crate::table::DECLARATIVES;
+
 /// What a statement's operation says.
 ///
 /// Source: SPS manual, operation codes and declarative operations.
@@ -64,17 +66,7 @@ impl Declarative {
         ensures some { 1 ≤ result }
         ensures ten { result ≤ 10 }
     {
-        match self {
-            Declarative::Dsa => 10,
-            Declarative::Dda => 4,
-            Declarative::Dc
-            | Declarative::Dsc
-            | Declarative::Dac
-            | Declarative::Dsb
-            | Declarative::Head => 3,
-            Declarative::Ds | Declarative::Dss | Declarative::Das | Declarative::Dnb => 2,
-            Declarative::Dgm | Declarative::Dorg | Declarative::Dend => 1,
-        }
+        usize::from(DECLARATIVES[self as usize].1.1)
     }
 }
 

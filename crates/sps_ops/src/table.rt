@@ -2,14 +2,14 @@
 ghost use Rattle.std.specs.Prelude.{◌≡◌, ◌<◌, map, length, IfSome, Some};
 ghost use Rattle.line_words.specs.Rows.{row_from_table, value_by_name, EachRowStandsFor, HasRow};
 ghost use Rattle.line_words.specs.Blanks.{without_outer_blanks};
-ghost use Rattle.sps_ops.specs.Operations.{lookup_of, operations, plain, whole, opcodes, by_digits, two_digit_text, mnemonics, unique_mnemonics, declaratives};
+ghost use Rattle.sps_ops.specs.Operations.{lookup_of, operations, plain, whole, opcodes, by_digits, two_digit_text, mnemonics, unique_mnemonics, declaratives, declared};
 
 use crate::{Declarative, Operation};
 use instruction_table::{INSTRUCTIONS, InstructionRow, OperandUse};
 use line_words::{find, trimmed};
 
 // The unique mnemonics, each with its opcode and its whole Q.
-const UNIQUE_MNEMONICS: [(&str, (u8, u32)); 46] = [
+static UNIQUE_MNEMONICS: [(&str, (u8, u32)); 46] = [
     // Branches by a result.
     ("BH", (46, 1100)),
     ("BP", (46, 1100)),
@@ -63,22 +63,26 @@ const UNIQUE_MNEMONICS: [(&str, (u8, u32)); 46] = [
     ("WDN", (38, 702)),
 ];
 
-// The declaratives.
-const DECLARATIVES: [(&str, Declarative); 14] = [
-    ("DS", Declarative::Ds),
-    ("DSS", Declarative::Dss),
-    ("DAS", Declarative::Das),
-    ("DC", Declarative::Dc),
-    ("DSC", Declarative::Dsc),
-    ("DAC", Declarative::Dac),
-    ("DSA", Declarative::Dsa),
-    ("DSB", Declarative::Dsb),
-    ("DNB", Declarative::Dnb),
-    ("DGM", Declarative::Dgm),
-    ("DDA", Declarative::Dda),
-    ("DORG", Declarative::Dorg),
-    ("DEND", Declarative::Dend),
-    ("HEAD", Declarative::Head),
+// A row of the table of declaratives: the declarative, and how many parts its operands have at most.
+#[derive(Clone, Copy)]
+pub(crate) struct DeclarativeRow(pub(crate) Declarative, pub(crate) u8);
+
+// The declaratives: the place of a row is that of its variant of `Declarative`.
+pub(crate) static DECLARATIVES: [(&str, DeclarativeRow); 14] = [
+    ("DS", DeclarativeRow(Declarative::Ds, 2)),
+    ("DSS", DeclarativeRow(Declarative::Dss, 2)),
+    ("DAS", DeclarativeRow(Declarative::Das, 2)),
+    ("DC", DeclarativeRow(Declarative::Dc, 3)),
+    ("DSC", DeclarativeRow(Declarative::Dsc, 3)),
+    ("DAC", DeclarativeRow(Declarative::Dac, 3)),
+    ("DSA", DeclarativeRow(Declarative::Dsa, 10)),
+    ("DSB", DeclarativeRow(Declarative::Dsb, 3)),
+    ("DNB", DeclarativeRow(Declarative::Dnb, 2)),
+    ("DGM", DeclarativeRow(Declarative::Dgm, 1)),
+    ("DDA", DeclarativeRow(Declarative::Dda, 4)),
+    ("DORG", DeclarativeRow(Declarative::Dorg, 1)),
+    ("DEND", DeclarativeRow(Declarative::Dend, 1)),
+    ("HEAD", DeclarativeRow(Declarative::Head, 3)),
 ];
 
 /// The operation of a statement's columns 12 to 15, or `None` where there is no such operation.
@@ -132,7 +136,7 @@ fn quick_operation(name: &[u8]) -> Option<Operation>
     let declaratives = DECLARATIVES.len();
     if k < declaratives {
         let declarative = row_at(&DECLARATIVES, k, name)?;
-        return Some(Operation::Declare(declarative));
+        return Some(declared(declarative));
     }
     None
 }
@@ -192,7 +196,7 @@ fn searched_operation(name: &[u8]) -> Option<Operation>
         return Some(whole(named));
     }
     let declarative = declarative(name)?;
-    Some(Operation::Declare(declarative))
+    Some(declared(declarative))
 }
 
 // The row of an instruction, by its mnemonic or the two digits of its opcode.
@@ -228,8 +232,8 @@ fn unique_mnemonic(name: &[u8]) -> Option<(u8, u32)>
     find(&UNIQUE_MNEMONICS, name)
 }
 
-// The declarative of a mnemonic.
-fn declarative(name: &[u8]) -> Option<Declarative>
+// The row of a declarative's mnemonic.
+fn declarative(name: &[u8]) -> Option<DeclarativeRow>
     ensures { result ≡ value_by_name declaratives name.now }
 {
     find(&DECLARATIVES, name)
@@ -277,4 +281,11 @@ fn whole(named: (u8, u32)) -> Operation
         q: Some(q),
         immediate: false,
     }
+}
+
+// A declarative by its row.
+fn declared(row: DeclarativeRow) -> Operation
+    ensures { result ≡ declared row }
+{
+    Operation::Declare(row.0)
 }

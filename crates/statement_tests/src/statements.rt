@@ -74,7 +74,7 @@ fn columns_decide_and_not_words(rt: HostRuntime) {
 }
 
 // A line without a label, its operation, its remark and its parts.
-const GREATEST_NUMBERS: [(&[u8], &[u8], &[u8], &[&[u8]]); 17] = [
+const GREATEST_NUMBERS: [(&[u8], &[u8], &[u8], &[&[u8]]); 18] = [
     (
         b"           DSA A,B,C,D,E,F,G,H,I,J,K,L",
         b"DSA ",
@@ -99,6 +99,7 @@ const GREATEST_NUMBERS: [(&[u8], &[u8], &[u8], &[&[u8]]); 17] = [
     (b"           DSS 1,2,3", b"DSS ", b"3", TWO),
     (b"           DAS 1,2,3", b"DAS ", b"3", TWO),
     (b"           DNB 1,2,3", b"DNB ", b"3", TWO),
+    (b"           HEAD1,2,3,4,5", b"HEAD", b"4,5", THREE),
     (b"           DGM 1,2,3", b"DGM ", b"2,3", &[b"1"]),
     (b"           DORG1,2,3", b"DORG", b"2,3", &[b"1"]),
     (b"           DEND1,2,3", b"DEND", b"2,3", &[b"1"]),
