@@ -57,19 +57,16 @@ pub enum Sentence {
     WithLast(&'static str, u32),
 }
 
-/// A row of the table of rules.
-#[derive(Clone, Copy, Debug)]
-pub struct RuleRow {
-    /// The number of the rule, 1 to 20.
-    pub number: u8,
-    /// The name of the rule, as it is printed: at most 17 letters.
-    pub name: &'static str,
-    /// What is wrong with a statement that breaks the rule.
-    pub sentence: Sentence,
+// A row of the table of rules: the number, 1 to 20; the name, at most 17 letters; and what is wrong with a statement that breaks the rule.
+#[derive(Clone, Copy)]
+struct RuleRow {
+    number: u8,
+    name: &'static str,
+    sentence: Sentence,
 }
 
-/// The table of rules, a row for each variant of [`Rule`], in the order of the variants.
-pub static RULES: [RuleRow; 20] = [
+// The table of rules, a row for each variant of `Rule`, in the order of the variants.
+static RULES: [RuleRow; 20] = [
     RuleRow {
         number: 1,
         name: "BadColumn",
@@ -181,8 +178,8 @@ pub static RULES: [RuleRow; 20] = [
 impl Rule {
     ghost use Rattle.sps_ops.specs.Rules.{rule_number, rule_name, rule_sentence, words_of_sentence};
 
-    /// The rule's row in the table.
-    pub fn row(self) -> &'static RuleRow
+    // The rule's row in the table.
+    fn row(self) -> &'static RuleRow
         ensures number { result.now.number ≡ rule_number self }
         ensures name { result.now.name.now ≡ rule_name self }
         ensures sentence { words_of_sentence result.now.sentence ≡ rule_sentence self }
