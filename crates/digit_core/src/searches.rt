@@ -8,7 +8,8 @@ ghost use Rattle.digit_core.specs.Search.{has_mark, is_bad, flag_below, mark_abo
 ghost use Rattle.digit_core.specs.Search.{NonePasses, AgreeUp, AgreeDown, first_up_words, first_down_words};
 ghost use Rattle.digit_core.specs.Cell.{has_flag};
 
-use crate::words::{TWOS, bads, flags, highest, lowest, marks, ones_between, twos_with_eight};
+use crate::sought::{Bad, Flag, Mark, Sought};
+use crate::words::{TWOS, flags, highest, lowest, ones_between, twos_with_eight};
 use crate::{Core, MODULE_WORDS};
 
 impl<const M: u32> Core<M> {
@@ -19,10 +20,11 @@ impl<const M: u32> Core<M> {
         requires { a < size M }
         ensures { result ≡ flag_below self.now a }
     {
-        if let Some(at) = self.flag_down_in(a / 10, 0, a % 10) {
+        if let Some(at) = self.down_in::<Flag>(a / 10, 0, a % 10) {
             return Some(at);
         }
-        self.flag_down_words(a / 10, 0)
+        let at = self.flag_down_eights(a / 10, 0);
+        self.down_words::<Flag>(at, 0)
     }
 
     /// The least position from `a` on whose cell is a record mark, flagged or not; `None` where there is none.
@@ -33,10 +35,11 @@ impl<const M: u32> Core<M> {
         ensures { result ≡ mark_above self.now a }
     {
         self.size_law();
-        if let Some(at) = self.mark_up_in(a / 10, a % 10, 10) {
+        if let Some(at) = self.up_in::<Mark>(a / 10, a % 10, 10) {
             return Some(at);
         }
-        self.mark_up_words(a / 10 + 1, M * MODULE_WORDS)
+        let at = self.mark_up_eights(a / 10 + 1, M * MODULE_WORDS);
+        self.up_words::<Mark>(at, M * MODULE_WORDS)
     }
 
     /// The first cell on the way from `a` to `b`, both included, that holds no digit; `None` where there is none.
@@ -58,7 +61,8 @@ impl<const M: u32> Core<M> {
         }
     }
 
-    // The first bad cell from `a` upwards to `b`: in its word, in the words between, and in the last.
+    // The first bad cell from `a` upwards to `b`: in its word, in the words between, and in the last. It is looked for only where a bit of core
+    // has failed, and so one word after the other.
     fn first_bad_up(&self, a: u32, b: u32) -> Option<u32>
         requires order { a ≤ b }
         requires b { b < size M }
@@ -67,15 +71,15 @@ impl<const M: u32> Core<M> {
         let first = a / 10;
         let last = b / 10;
         if first == last {
-            return self.bad_up_in(first, a % 10, b % 10 + 1);
+            return self.up_in::<Bad>(first, a % 10, b % 10 + 1);
         }
-        if let Some(at) = self.bad_up_in(first, a % 10, 10) {
+        if let Some(at) = self.up_in::<Bad>(first, a % 10, 10) {
             return Some(at);
         }
-        if let Some(at) = self.bad_up_words(first + 1, last) {
+        if let Some(at) = self.up_words::<Bad>(first + 1, last) {
             return Some(at);
         }
-        self.bad_up_in(last, 0, b % 10 + 1)
+        self.up_in::<Bad>(last, 0, b % 10 + 1)
     }
 
     // The first bad cell from `a` downwards to `b`, likewise.
@@ -87,79 +91,77 @@ impl<const M: u32> Core<M> {
         let first = a / 10;
         let last = b / 10;
         if first == last {
-            return self.bad_down_in(first, b % 10, a % 10 + 1);
+            return self.down_in::<Bad>(first, b % 10, a % 10 + 1);
         }
-        if let Some(at) = self.bad_down_in(first, 0, a % 10 + 1) {
+        if let Some(at) = self.down_in::<Bad>(first, 0, a % 10 + 1) {
             return Some(at);
         }
-        if let Some(at) = self.bad_down_words(first, last + 1) {
+        if let Some(at) = self.down_words::<Bad>(first, last + 1) {
             return Some(at);
         }
-        self.bad_down_in(last, b % 10, 10)
+        self.down_in::<Bad>(last, b % 10, 10)
     }
 
-    // Among the cells of word `i` from number `from` on, below `to`: the highest with a flag.
+    // Among the cells of word `i` from number `from` on, below `to`: the lowest that passes.
     #[inline]
-    fn flag_down_in(&self, i: u32, from: u32, to: u32) -> Option<u32>
+    fn up_in<S: Sought>(&self, i: u32, from: u32, to: u32) -> Option<u32>
         requires in_core { i < M * 2000 }
         requires order { from ≤ to }
         requires to { to ≤ 10 }
-        ensures { result ≡ first_down has_flag self.now (10 * i + to) (to - from) }
+        ensures { result ≡ first_up S.passes self.now (10 * i + from) (to - from) }
     {
         self.size_law();
-        let w = self.word(i);
-        match highest(flags(w) & ones_between(from, to)) {
+        match lowest(S::ones(self.word(i)) & ones_between(from, to)) {
             Some(j) => Some(10 * i + j),
             None => None,
         }
     }
 
-    // Among the same cells: the lowest that is a record mark.
+    // Among the same cells: the highest that passes.
     #[inline]
-    fn mark_up_in(&self, i: u32, from: u32, to: u32) -> Option<u32>
+    fn down_in<S: Sought>(&self, i: u32, from: u32, to: u32) -> Option<u32>
         requires in_core { i < M * 2000 }
         requires order { from ≤ to }
         requires to { to ≤ 10 }
-        ensures { result ≡ first_up has_mark self.now (10 * i + from) (to - from) }
+        ensures { result ≡ first_down S.passes self.now (10 * i + to) (to - from) }
     {
         self.size_law();
-        let w = self.word(i);
-        match lowest(marks(w) & ones_between(from, to)) {
+        match highest(S::ones(self.word(i)) & ones_between(from, to)) {
             Some(j) => Some(10 * i + j),
             None => None,
         }
     }
 
-    // Among the same cells: the lowest that is bad.
-    #[inline]
-    fn bad_up_in(&self, i: u32, from: u32, to: u32) -> Option<u32>
-        requires in_core { i < M * 2000 }
-        requires order { from ≤ to }
-        requires to { to ≤ 10 }
-        ensures { result ≡ first_up is_bad self.now (10 * i + from) (to - from) }
+    // In the words from `i` on, before word `end`, one by one: the lowest cell that passes.
+    fn up_words<S: Sought>(&self, i: u32, end: u32) -> Option<u32>
+        requires order { i ≤ end }
+        requires end { end ≤ M * 2000 }
+        ensures { result ≡ first_up_words S.passes self.now i end }
     {
-        self.size_law();
-        let w = self.word(i);
-        match lowest(bads(w) & ones_between(from, to)) {
-            Some(j) => Some(10 * i + j),
-            None => None,
+        let mut at = i;
+        while at < end {
+            if let Some(found) = self.up_in::<S>(at, 0, 10) {
+                return Some(found);
+            }
+            at += 1;
         }
+        None
     }
 
-    // Among the same cells: the highest that is bad.
-    #[inline]
-    fn bad_down_in(&self, i: u32, from: u32, to: u32) -> Option<u32>
-        requires in_core { i < M * 2000 }
-        requires order { from ≤ to }
-        requires to { to ≤ 10 }
-        ensures { result ≡ first_down is_bad self.now (10 * i + to) (to - from) }
+    // In the words below word `i`, downwards to word `end`, one by one: the highest cell that passes.
+    fn down_words<S: Sought>(&self, i: u32, end: u32) -> Option<u32>
+        requires order { end ≤ i }
+        requires i { i ≤ M * 2000 }
+        ensures { result ≡ first_down_words S.passes self.now i end }
     {
-        self.size_law();
-        let w = self.word(i);
-        match highest(bads(w) & ones_between(from, to)) {
-            Some(j) => Some(10 * i + j),
-            None => None,
+        let mut at = i;
+        while at > end {
+            at -= 1;
+            if let Some(found) = self.down_in::<S>(at, 0, 10) {
+                return Some(found);
+            }
         }
+        None
     }
 
     // Whether there is a flag in the eight words from `i` on.
@@ -195,22 +197,6 @@ impl<const M: u32> Core<M> {
         all & TWOS != 0
     }
 
-    // The highest flag in the words below word `i`, downwards to word `end`.
-    fn flag_down_words(&self, i: u32, end: u32) -> Option<u32>
-        requires order { end ≤ i }
-        requires i { i ≤ M * 2000 }
-        ensures { result ≡ first_down_words has_flag self.now i end }
-    {
-        let mut at = self.flag_down_eights(i, end);
-        while at > end {
-            at -= 1;
-            if let Some(found) = self.flag_down_in(at, 0, 10) {
-                return Some(found);
-            }
-        }
-        None
-    }
-
     // Where the search goes on once no flag is in the words passed over, eight at a time.
     #[inline]
     fn flag_down_eights(&self, i: u32, end: u32) -> u32
@@ -230,22 +216,6 @@ impl<const M: u32> Core<M> {
         at
     }
 
-    // The lowest record mark in the words from `i` on, before word `end`: eight words at a time, and then one by one.
-    fn mark_up_words(&self, i: u32, end: u32) -> Option<u32>
-        requires order { i ≤ end }
-        requires end { end ≤ M * 2000 }
-        ensures { result ≡ first_up_words has_mark self.now i end }
-    {
-        let mut at = self.mark_up_eights(i, end);
-        while at < end {
-            if let Some(found) = self.mark_up_in(at, 0, 10) {
-                return Some(found);
-            }
-            at += 1;
-        }
-        None
-    }
-
     // Where the search goes on once no record mark is in the words passed over, eight at a time.
     #[inline]
     fn mark_up_eights(&self, i: u32, end: u32) -> u32
@@ -263,38 +233,5 @@ impl<const M: u32> Core<M> {
             at += 8;
         }
         at
-    }
-
-    // The lowest bad cell in the words from `i` on, before word `end`. They are looked at only where a bit of core has failed, and so one by
-    // one.
-    fn bad_up_words(&self, i: u32, end: u32) -> Option<u32>
-        requires order { i ≤ end }
-        requires end { end ≤ M * 2000 }
-        ensures { result ≡ first_up_words is_bad self.now i end }
-    {
-        let mut at = i;
-        while at < end {
-            if let Some(found) = self.bad_up_in(at, 0, 10) {
-                return Some(found);
-            }
-            at += 1;
-        }
-        None
-    }
-
-    // The highest bad cell in the words below word `i`, downwards to word `end`.
-    fn bad_down_words(&self, i: u32, end: u32) -> Option<u32>
-        requires order { end ≤ i }
-        requires i { i ≤ M * 2000 }
-        ensures { result ≡ first_down_words is_bad self.now i end }
-    {
-        let mut at = i;
-        while at > end {
-            at -= 1;
-            if let Some(found) = self.bad_down_in(at, 0, 10) {
-                return Some(found);
-            }
-        }
-        None
     }
 }

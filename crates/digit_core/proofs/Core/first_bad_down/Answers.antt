@@ -40,17 +40,17 @@ module _ (cells : List ℕ) (a b : ℕ) (order : b ≤ a) where
         (rw at at is) ∙ down_second is_bad cells (10 * (a / 10)) words (10 - b % 10) none
 
 pub returns-then-first-last : goal.returns-then-first-last
-returns-then-first-last g c = same c.args.self.now c.args.a c.args.b c.requires.order c.if-first-last.true _ c.bad_down_in.ensures
+returns-then-first-last g c = same c.args.self.now c.args.a c.args.b c.requires.order c.if-first-last.true _ c.down_in.ensures
 
 pub returns-in-Some : goal.returns-in-Some
 returns-in-Some g c = in_head c.args.self.now c.args.a c.args.b c.requires.order (omega arith) c.in-Some.at c.in-Some.ensures
 
-pub returns-in-Some-bad_down_words : goal.returns-in-Some-bad_down_words
-returns-in-Some-bad_down_words g c =
-    down_first is_bad c.args.self.now (10 * (c.args.a / 10)) (words c.args.self.now c.args.a c.args.b c.requires.order (omega arith)) (10 - c.args.b % 10) c.in-Some-bad_down_words.at c.in-Some-bad_down_words.ensures
-    ∙ past_head c.args.self.now c.args.a c.args.b c.requires.order (omega arith) (sym c.in_default.is ∙ c.bad_down_in-2.ensures)
+pub returns-in-Some-down_words : goal.returns-in-Some-down_words
+returns-in-Some-down_words g c =
+    down_first is_bad c.args.self.now (10 * (c.args.a / 10)) (words c.args.self.now c.args.a c.args.b c.requires.order (omega arith)) (10 - c.args.b % 10) c.in-Some-down_words.at c.in-Some-down_words.ensures
+    ∙ past_head c.args.self.now c.args.a c.args.b c.requires.order (omega arith) (sym c.in_default.is ∙ c.down_in-2.ensures)
 
 pub returns : goal.returns
 returns g c =
-    in_tail c.args.self.now c.args.a c.args.b c.requires.order (omega arith) (sym c.in_default-bad_down_words.is ∙ c.bad_down_words.ensures) _ c.bad_down_in-3.ensures
-    ∙ past_head c.args.self.now c.args.a c.args.b c.requires.order (omega arith) (sym c.in_default.is ∙ c.bad_down_in-2.ensures)
+    in_tail c.args.self.now c.args.a c.args.b c.requires.order (omega arith) (sym c.in_default-down_words.is ∙ c.down_words.ensures) _ c.down_in-3.ensures
+    ∙ past_head c.args.self.now c.args.a c.args.b c.requires.order (omega arith) (sym c.in_default.is ∙ c.down_in-2.ensures)

@@ -38,17 +38,17 @@ module _ (cells : List ℕ) (a b : ℕ) (order : a ≤ b) where
         (rw (at, n) at is) ∙ up_second is_bad cells (10 * (a / 10 + 1)) words (b % 10 + 1) none
 
 pub returns-then-first-last : goal.returns-then-first-last
-returns-then-first-last g c = same c.args.self.now c.args.a c.args.b c.requires.order c.if-first-last.true _ c.bad_up_in.ensures
+returns-then-first-last g c = same c.args.self.now c.args.a c.args.b c.requires.order c.if-first-last.true _ c.up_in.ensures
 
 pub returns-in-Some : goal.returns-in-Some
 returns-in-Some g c = in_head c.args.self.now c.args.a c.args.b c.requires.order (omega arith) c.in-Some.at c.in-Some.ensures
 
-pub returns-in-Some-bad_up_words : goal.returns-in-Some-bad_up_words
-returns-in-Some-bad_up_words g c =
-    up_first is_bad c.args.self.now (10 * (c.args.a / 10 + 1)) (words c.args.self.now c.args.a c.args.b c.requires.order (omega arith)) (c.args.b % 10 + 1) c.in-Some-bad_up_words.at c.in-Some-bad_up_words.ensures
-    ∙ past_head c.args.self.now c.args.a c.args.b c.requires.order (omega arith) (sym c.in_default.is ∙ c.bad_up_in-2.ensures)
+pub returns-in-Some-up_words : goal.returns-in-Some-up_words
+returns-in-Some-up_words g c =
+    up_first is_bad c.args.self.now (10 * (c.args.a / 10 + 1)) (words c.args.self.now c.args.a c.args.b c.requires.order (omega arith)) (c.args.b % 10 + 1) c.in-Some-up_words.at c.in-Some-up_words.ensures
+    ∙ past_head c.args.self.now c.args.a c.args.b c.requires.order (omega arith) (sym c.in_default.is ∙ c.up_in-2.ensures)
 
 pub returns : goal.returns
 returns g c =
-    in_tail c.args.self.now c.args.a c.args.b c.requires.order (omega arith) (sym c.in_default-bad_up_words.is ∙ c.bad_up_words.ensures) _ c.bad_up_in-3.ensures
-    ∙ past_head c.args.self.now c.args.a c.args.b c.requires.order (omega arith) (sym c.in_default.is ∙ c.bad_up_in-2.ensures)
+    in_tail c.args.self.now c.args.a c.args.b c.requires.order (omega arith) (sym c.in_default-up_words.is ∙ c.up_words.ensures) _ c.up_in-3.ensures
+    ∙ past_head c.args.self.now c.args.a c.args.b c.requires.order (omega arith) (sym c.in_default.is ∙ c.up_in-2.ensures)

@@ -1,0 +1,55 @@
+//! What a search looks for among the cells.
+//!
+//! Source: this project's own.
+
+ghost use Rattle.std.specs.Prelude.{◌≡◌, ℕ, ◌<◌, Bool};
+ghost use Rattle.digit_core.specs.Packed.{six};
+ghost use Rattle.digit_core.specs.Cell.{has_flag};
+ghost use Rattle.digit_core.specs.Search.{has_mark, is_bad, one_if};
+
+use crate::words;
+
+// A test on cells: a search finds the first cell that passes.
+pub(crate) trait Sought {
+    ghost passes: { ℕ → Bool };
+
+    // A word with 1 in each cell that passes, and 0 in the others.
+    fn ones(w: u64) -> u64
+        ensures { (j : ℕ) → j < 10 → six result j ≡ one_if (passes (six w j)) };
+}
+
+// A cell with a flag, good or not.
+pub(crate) struct Flag;
+
+impl Sought for Flag {
+    ghost passes = { has_flag };
+
+    #[inline]
+    fn ones(w: u64) -> u64 {
+        words::flags(w)
+    }
+}
+
+// A record mark, flagged or not.
+pub(crate) struct Mark;
+
+impl Sought for Mark {
+    ghost passes = { has_mark };
+
+    #[inline]
+    fn ones(w: u64) -> u64 {
+        words::marks(w)
+    }
+}
+
+// A cell that holds no digit.
+pub(crate) struct Bad;
+
+impl Sought for Bad {
+    ghost passes = { is_bad };
+
+    #[inline]
+    fn ones(w: u64) -> u64 {
+        words::bads(w)
+    }
+}
