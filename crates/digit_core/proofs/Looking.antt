@@ -1,11 +1,11 @@
 -- A search within a word, by the cells of a word of ones.
 use Rattle.std.proofs.Common.{ℕ, ◌≡◌, ◌≢◌, ◌+◌, ◌-◌, ◌*◌, ◌<◌, ◌≤◌, ◌⊎◌, Bool, true, false, inl, inr, List, get_or, Some, None, refl, sym, ◌∙◌, ap, arith, bit_and, bit_or}
 use Rattle.std.proofs.lemmas.Bool.{cases_lt}
-use Rattle.std.proofs.lemmas.Nat.{or_comm, le_or_l, and_assoc, and_comm, and_or_self}
+use Rattle.std.proofs.lemmas.Nat.{or_comm, le_or_l}
 use Rattle.digit_core.specs.Packed.{six}
 use Rattle.digit_core.specs.Search.{first_up, first_down, one_if}
 use Rattle.digit_core.specs.Within.{IsLowest, IsHighest}
-use Rattle.digit_core.proofs.Planes.{masked_one, masked_none, no_one}
+use Rattle.digit_core.proofs.Planes.{masked_one, masked_none}
 use Rattle.digit_core.proofs.Passing.{up_found, up_all, down_found, down_all}
 
 pub is_one : (b : Bool) (x : ℕ) → x ≡ one_if b → x ≡ 1 → b ≡ true
@@ -75,36 +75,16 @@ pub or_none : (x y : ℕ) → bit_or x y ≡ 0 → x ≡ 0
 or_none x y none = omega (arith, le_or_l x y)
 
 -- none in one word more
-pub none_more : (p : ℕ → Bool) (cells : List ℕ) (i k all w ones : ℕ)
+pub none_more : (p : ℕ → Bool) (cells : List ℕ) (i k all w hints : ℕ)
     → ((j : ℕ) → j < 10 → six w j ≡ get_or cells (10 * (i + k) + j) 0)
-    → ((j : ℕ) → j < 10 → six ones j ≡ one_if (p (six w j)))
+    → (hints ≡ 0 → (j : ℕ) → j < 10 → p (six w j) ≡ false)
     → (all ≡ 0 → (j : ℕ) → j < 10 * k → p (get_or cells (10 * i + j) 0) ≡ false)
-    → bit_or all ones ≡ 0 → (j : ℕ) → j < 10 * (k + 1) → p (get_or cells (10 * i + j) 0) ≡ false
-none_more p cells i k all w ones read each before none j below =
+    → bit_or all hints ≡ 0 → (j : ℕ) → j < 10 * (k + 1) → p (get_or cells (10 * i + j) 0) ≡ false
+none_more p cells i k all w hints read each before none j below =
     elim (cases_lt j (10 * k)) [
-      | inl l ↦ before (or_none all ones none) j l
+      | inl l ↦ before (or_none all hints none) j l
       | inr g ↦
           let h : j - 10 * k < 10 = omega arith in
           let at : 10 * (i + k) + (j - 10 * k) ≡ 10 * i + j = omega arith in
-          ap (λ x. p (get_or cells x 0)) (sym at) ∙ ap p (sym (read (j - 10 * k) h)) ∙ no_one ones (j - 10 * k) (p (six w (j - 10 * k))) (each (j - 10 * k) h) (or_none ones all (or_comm ones all ∙ none))
-    ]
-
--- the same, where only the bits of a mask say it
-or_none_under : (x y mask : ℕ) → bit_and (bit_or x y) mask ≡ 0 → bit_and y mask ≡ 0
-or_none_under x y mask none =
-    let self : bit_and (bit_or x y) y ≡ y = and_or_self y x in
-    ap (λ z. bit_and z mask) (sym self) ∙ ap (λ z. bit_and z mask) (and_comm (bit_or x y) y) ∙ and_assoc mask y (bit_or x y) ∙ ap (λ z. bit_and y z) none ∙ and_comm y 0
-
-pub none_more_under : (p : ℕ → Bool) (mask : ℕ) (cells : List ℕ) (i k all w x : ℕ)
-    → ((j : ℕ) → j < 10 → six w j ≡ get_or cells (10 * (i + k) + j) 0)
-    → (bit_and x mask ≡ 0 → (j : ℕ) → j < 10 → p (six w j) ≡ false)
-    → (bit_and all mask ≡ 0 → (j : ℕ) → j < 10 * k → p (get_or cells (10 * i + j) 0) ≡ false)
-    → bit_and (bit_or all x) mask ≡ 0 → (j : ℕ) → j < 10 * (k + 1) → p (get_or cells (10 * i + j) 0) ≡ false
-none_more_under p mask cells i k all w x read each before none j below =
-    elim (cases_lt j (10 * k)) [
-      | inl l ↦ before (or_none_under x all mask (ap (λ z. bit_and z mask) (or_comm x all) ∙ none)) j l
-      | inr g ↦
-          let h : j - 10 * k < 10 = omega arith in
-          let at : 10 * (i + k) + (j - 10 * k) ≡ 10 * i + j = omega arith in
-          ap (λ x. p (get_or cells x 0)) (sym at) ∙ ap p (sym (read (j - 10 * k) h)) ∙ each (or_none_under all x mask none) (j - 10 * k) h
+          ap (λ x. p (get_or cells x 0)) (sym at) ∙ ap p (sym (read (j - 10 * k) h)) ∙ each (or_none hints all (or_comm hints all ∙ none)) (j - 10 * k) h
     ]

@@ -4,12 +4,11 @@
 
 ghost use Rattle.std.specs.Prelude.{◌≡◌, ◌+◌, ◌-◌, ◌*◌, ◌<◌, ◌≤◌, ℕ, All, false};
 ghost use Rattle.digit_core.specs.Size.{size};
-ghost use Rattle.digit_core.specs.Search.{has_mark, is_bad, flag_below, mark_above, first_bad, first_up, first_down};
+ghost use Rattle.digit_core.specs.Search.{is_bad, flag_below, mark_above, first_bad, first_up, first_down};
 ghost use Rattle.digit_core.specs.Search.{NonePasses, AgreeUp, AgreeDown, first_up_words, first_down_words};
-ghost use Rattle.digit_core.specs.Cell.{has_flag};
 
 use crate::sought::{Bad, Flag, Mark, Sought};
-use crate::words::{TWOS, flags, highest, lowest, ones_between, twos_with_eight};
+use crate::words::{highest, lowest, ones_between};
 use crate::{Core, MODULE_WORDS};
 
 impl<const M: u32> Core<M> {
@@ -23,7 +22,7 @@ impl<const M: u32> Core<M> {
         if let Some(at) = self.down_in::<Flag>(a / 10, 0, a % 10) {
             return Some(at);
         }
-        let at = self.flag_down_eights(a / 10, 0);
+        let at = self.down_eights::<Flag>(a / 10, 0);
         self.down_words::<Flag>(at, 0)
     }
 
@@ -38,7 +37,7 @@ impl<const M: u32> Core<M> {
         if let Some(at) = self.up_in::<Mark>(a / 10, a % 10, 10) {
             return Some(at);
         }
-        let at = self.mark_up_eights(a / 10 + 1, M * MODULE_WORDS);
+        let at = self.up_eights::<Mark>(a / 10 + 1, M * MODULE_WORDS);
         self.up_words::<Mark>(at, M * MODULE_WORDS)
     }
 
@@ -164,51 +163,34 @@ impl<const M: u32> Core<M> {
         None
     }
 
-    // Whether there is a flag in the eight words from `i` on.
+    // Whether a cell may pass in the eight words from `i` on: where the answer is no, none does.
     #[inline]
-    fn flag_in_eight(&self, i: u32) -> bool
+    fn in_eight<S: Sought>(&self, i: u32) -> bool
         requires { i + 8 ≤ M * 2000 }
-        ensures { result ≡ false → NonePasses has_flag self.now (10 * i) 80 }
+        ensures { result ≡ false → NonePasses S.passes self.now (10 * i) 80 }
     {
         let first = i as usize;
         let mut all = 0;
         let mut k = 0;
         while k < 8 {
-            all |= flags(self.word_at(first + k));
+            all |= S::hints(self.word_at(first + k));
             k += 1;
         }
         all != 0
     }
 
-    // Whether there may be a record mark in these words: where the answer is no, there is none. Where it is yes, a cell has 8 and 2, which a
-    // group mark has too.
+    // Where a search downwards goes on once no cell passes in the words passed over, eight at a time.
     #[inline]
-    fn mark_in_eight(&self, i: u32) -> bool
-        requires { i + 8 ≤ M * 2000 }
-        ensures { result ≡ false → NonePasses has_mark self.now (10 * i) 80 }
-    {
-        let first = i as usize;
-        let mut all = 0;
-        let mut k = 0;
-        while k < 8 {
-            all |= twos_with_eight(self.word_at(first + k));
-            k += 1;
-        }
-        all & TWOS != 0
-    }
-
-    // Where the search goes on once no flag is in the words passed over, eight at a time.
-    #[inline]
-    fn flag_down_eights(&self, i: u32, end: u32) -> u32
+    fn down_eights<S: Sought>(&self, i: u32, end: u32) -> u32
         requires order { end ≤ i }
         requires i { i ≤ M * 2000 }
         ensures within { result ≤ i }
         ensures before { end ≤ result }
-        ensures rest { AgreeDown has_flag self.now end result i }
+        ensures rest { AgreeDown S.passes self.now end result i }
     {
         let mut at = i;
         while at - end >= 8 {
-            if self.flag_in_eight(at - 8) {
+            if self.in_eight::<S>(at - 8) {
                 return at;
             }
             at -= 8;
@@ -216,18 +198,18 @@ impl<const M: u32> Core<M> {
         at
     }
 
-    // Where the search goes on once no record mark is in the words passed over, eight at a time.
+    // Where a search upwards does, likewise.
     #[inline]
-    fn mark_up_eights(&self, i: u32, end: u32) -> u32
+    fn up_eights<S: Sought>(&self, i: u32, end: u32) -> u32
         requires order { i ≤ end }
         requires end { end ≤ M * 2000 }
         ensures within { i ≤ result }
         ensures before { result ≤ end }
-        ensures rest { AgreeUp has_mark self.now end result i }
+        ensures rest { AgreeUp S.passes self.now end result i }
     {
         let mut at = i;
         while end - at >= 8 {
-            if self.mark_in_eight(at) {
+            if self.in_eight::<S>(at) {
                 return at;
             }
             at += 8;

@@ -2,7 +2,7 @@
 //!
 //! Source: this project's own.
 
-ghost use Rattle.std.specs.Prelude.{◌≡◌, ℕ, ◌<◌, Bool};
+ghost use Rattle.std.specs.Prelude.{◌≡◌, ℕ, ◌<◌, Bool, false};
 ghost use Rattle.digit_core.specs.Packed.{six};
 ghost use Rattle.digit_core.specs.Cell.{has_flag};
 ghost use Rattle.digit_core.specs.Search.{has_mark, is_bad, one_if};
@@ -16,6 +16,14 @@ pub(crate) trait Sought {
     // A word with 1 in each cell that passes, and 0 in the others.
     fn ones(w: u64) -> u64
         ensures { (j : ℕ) → j < 10 → six result j ≡ one_if (passes (six w j)) };
+
+    // A word that is 0 only where no cell passes. It may have bits for others too.
+    #[inline]
+    fn hints(w: u64) -> u64
+        ensures { result ≡ 0 → (j : ℕ) → j < 10 → passes (six w j) ≡ false }
+    {
+        Self::ones(w)
+    }
 }
 
 // A cell with a flag, good or not.
@@ -39,6 +47,12 @@ impl Sought for Mark {
     #[inline]
     fn ones(w: u64) -> u64 {
         words::marks(w)
+    }
+
+    // By the bits 8 and 2, which are seen in fewer steps; a group mark has them too.
+    #[inline]
+    fn hints(w: u64) -> u64 {
+        words::twos_with_eight(w)
     }
 }
 

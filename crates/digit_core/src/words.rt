@@ -94,14 +94,14 @@ pub(crate) fn marks(w: u64) -> u64
 }
 
 // The bit 2 of each of the ten cells.
-pub(crate) const TWOS: u64 = 0x0082_0820_8208_2082;
+const TWOS: u64 = 0x0082_0820_8208_2082;
 
-// A word that has bit 2 of each cell with both 8 and 2, as a record mark has them, and of no other. What it has beside these bits says nothing.
+// A word with bit 2 of each cell that has both 8 and 2, as a record mark has them, and of no other.
 #[inline]
 pub(crate) fn twos_with_eight(w: u64) -> u64
-    ensures { bit_and result TWOS ≡ 0 → (j : ℕ) → j < 10 → has_eight_and_two (six w j) ≡ false }
+    ensures { result ≡ 0 → (j : ℕ) → j < 10 → has_eight_and_two (six w j) ≡ false }
 {
-    w & (w >> 2)
+    w & (w >> 2) & TWOS
 }
 
 // At the lowest bit of each cell: the parity of its bits 1, 2 and 4. Three above it: that of its bits 8, F and C.

@@ -20,4 +20,4 @@ returns g c =
     let low : c.args.a - c.args.a % 10 ≡ 10 * (c.args.a / 10) = omega arith in
     let i : c.args.a / 10 - 0 ≡ c.args.a / 10 = omega arith in
     let s = down_second has_flag c.args.self.now c.args.a (c.args.a % 10) (10 * (c.args.a / 10)) (rw (a, m) at (sym c.in_default.is ∙ c.down_in.ensures)) in
-    c.down_words.ensures ∙ (rw i at c.flag_down_eights-at.ensures.rest) ∙ (rw (all, low) at s)
+    c.down_words.ensures ∙ (rw i at c.down_eights-at.ensures.rest) ∙ (rw (all, low) at s)

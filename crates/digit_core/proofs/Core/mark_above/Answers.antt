@@ -17,4 +17,4 @@ returns g c =
     let all : 10 - c.args.a % 10 + 10 * (g.row.M * 2000 - (c.args.a / 10 + 1)) ≡ length c.args.self.now - c.args.a = omega arith in
     let next : c.args.a + (10 - c.args.a % 10) ≡ 10 * (c.args.a / 10 + 1) = omega arith in
     let s = up_second has_mark c.args.self.now c.args.a (10 - c.args.a % 10) (10 * (g.row.M * 2000 - (c.args.a / 10 + 1))) (rw a at (sym c.in_default.is ∙ c.up_in.ensures)) in
-    c.up_words.ensures ∙ c.mark_up_eights-at.ensures.rest ∙ (rw (all, next) at s)
+    c.up_words.ensures ∙ c.up_eights-at.ensures.rest ∙ (rw (all, next) at s)
