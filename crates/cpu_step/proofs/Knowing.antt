@@ -1,20 +1,17 @@
 -- What twelve good cells come to.
-use Rattle.std.proofs.Common.{ℕ, ◌≡◌, ◌+◌, ◌%◌, ◌==◌, ◌<◌, ◌≤◌, Bool, true, false, not, List, length, Ok, Err, Some, None, refl, sym, ap, subst, ◌∙◌, arith}
-use Rattle.std.specs.Prelude.{if◌then◌else◌, count_ones, Option, Result}
+use Rattle.std.proofs.Common.{ℕ, ◌≡◌, ◌+◌, ◌%◌, ◌==◌, ◌<◌, ◌≤◌, Bool, true, false, List, length, Ok, Err, Some, None, refl, sym, ap, subst, ◌∙◌, arith}
+use Rattle.std.specs.Prelude.{if◌then◌else◌, Option, Result}
 use Rattle.std.proofs.lemmas.Bool.Decides.{nat_tests}
-use Rattle.digit_core.specs.declared.Digit.{Digit}
-use Rattle.digit_core.specs.declared.CellFault.TheVariants.{EvenParity, BadValue}
-use Rattle.digit_core.specs.Cell.{read_cell, is_value, digit_of_cell}
 use Rattle.digit_core.specs.Size.{size}
-use Rattle.digit_core.specs.Packed.{six}
-use Rattle.digit_core.specs.Search.{is_bad}
 use Rattle.addr_indirect.specs.declared.Stop.{Stop}
 use Rattle.addr_indirect.specs.declared.Instr.{Instr}
 use Rattle.addr_indirect.specs.declared.Stop.TheVariants.{EvenAlpha}
 use Rattle.addr_indirect.specs.Steps.{◌>>=◌}
 use Rattle.addr_indirect.specs.Fetch.{fetch, opcode}
 use Rattle.addr_indirect.specs.Operands.{p_operand, q_operand}
-use Rattle.addr_indirect.proofs.Windows.{reads_in, up_more, up_none, fetch_is}
+use Rattle.addr_indirect.specs.Twelve.{digits_in, TwelveAreGood}
+use Rattle.addr_indirect.proofs.TwelveCells.{twelve_read}
+use Rattle.addr_indirect.proofs.Windows.{fetch_is}
 use Rattle.instruction_table.specs.declared.MayStore.{MayStore}
 use Rattle.instruction_table.specs.declared.MayStore.TheVariants.{Nothing}
 use Rattle.instruction_table.specs.declared.BranchOp.TheVariants.{B}
@@ -34,30 +31,9 @@ use Rattle.cpu_step.specs.Rows.{row_of_op, with_columns, row_by_table, instructi
 use Rattle.cpu_step.specs.Checks.{wants_odd}
 use Rattle.cpu_step.specs.Act.{operands}
 use Rattle.cpu_step.specs.Fields.{number_in, fields_used, operands_at, HoldOperands}
-use Rattle.cpu_step.specs.Known.{digits_in, instr_at, AreGood, AreTwelve, AreSettled, IsRow, IsB, IsKnown, found_with, uses_in, uses_at, code_in, ComesToRow, ComesToB, ComesTo}
+use Rattle.cpu_step.specs.Known.{instr_at, AreTwelve, AreSettled, IsRow, IsB, IsKnown, found_with, uses_in, uses_at, code_in, ComesToRow, ComesToB, ComesTo}
 use Rattle.cpu_step.proofs.Fielded.{fields_hold}
 use Rattle.cpu_step.proofs.TableRows.{uses_odd, b_columns}
-
--- whatever the two tests of a cell say
-tested : (even good : Bool) (d e : Digit) → (if even then Err EvenParity else if good then Ok d else Err BadValue) ≡ Ok e → e ≡ d
-tested true good d e h = cc
-tested false true d e h = cc
-tested false false d e h = cc
-
--- a digit that is read is its cell's
-pub read_is : (c : ℕ) (d : Digit) → read_cell c ≡ Ok d → d ≡ digit_of_cell c
-unfolding read_cell
-read_is c d h = tested (count_ones c % 2 == 0) (is_value (c % 16)) (digit_of_cell c) d h
-
-passed : (even good : Bool) (d : Digit) → (if even then true else not good) ≡ false → (if even then Err EvenParity else if good then Ok d else Err BadValue) ≡ Ok d
-passed true good d h = cc
-passed false true d h = refl
-passed false false d h = cc
-
--- a good cell is read as its digit
-pub good_reads : (c : ℕ) → is_bad c ≡ false → read_cell c ≡ Ok (digit_of_cell c)
-unfolding read_cell
-good_reads c h = passed (count_ones c % 2 == 0) (is_value (c % 16)) (digit_of_cell c) h
 
 -- a row is found by the digits alone, wherever they stand
 module _ (ir low high : ℕ) where
@@ -110,7 +86,7 @@ field_odd u stores i e = cc
 pub row_odd : (i : Instr) (row : Row) (f : Fields) → IsRow i row f → takes_odd row ≡ true → f.odd ≡ true
 row_odd i row f is odd = ap (λ (x : Fields). x.odd) is.fields_are ∙ field_odd is.uses f.stores i (uses_odd i _ is.row_is odd)
 
-module _ (m low high : ℕ) (good : AreGood low high) (core : List ℕ) (ir : ℕ) (t : AreTwelve m core ir low high) where
+module _ (m low high : ℕ) (good : TwelveAreGood low high) (core : List ℕ) (ir : ℕ) (t : AreTwelve m core ir low high) where
   long : length core ≡ size m
   long = t.long
 
@@ -118,33 +94,7 @@ module _ (m low high : ℕ) (good : AreGood low high) (core : List ℕ) (ir : �
   inside = t.inside
 
   pub fetched : fetch core ir ≡ Ok (instr_at ir low high)
-  fetched =
-      let r0 = reads_in core (ir + 0) ir (six low 0) (digit_of_cell (six low 0)) (omega arith) (omega arith) (t.low_cells 0 (omega arith)) (good_reads _ (good.low_good 0 (omega arith))) in
-      let r1 = reads_in core (ir + 1) (ir + 1) (six low 1) (digit_of_cell (six low 1)) (omega arith) (omega arith) (t.low_cells 1 (omega arith)) (good_reads _ (good.low_good 1 (omega arith))) in
-      let r2 = reads_in core (ir + 2) (ir + 2) (six low 2) (digit_of_cell (six low 2)) (omega arith) (omega arith) (t.low_cells 2 (omega arith)) (good_reads _ (good.low_good 2 (omega arith))) in
-      let r3 = reads_in core (ir + 3) (ir + 3) (six low 3) (digit_of_cell (six low 3)) (omega arith) (omega arith) (t.low_cells 3 (omega arith)) (good_reads _ (good.low_good 3 (omega arith))) in
-      let r4 = reads_in core (ir + 4) (ir + 4) (six low 4) (digit_of_cell (six low 4)) (omega arith) (omega arith) (t.low_cells 4 (omega arith)) (good_reads _ (good.low_good 4 (omega arith))) in
-      let r5 = reads_in core (ir + 5) (ir + 5) (six low 5) (digit_of_cell (six low 5)) (omega arith) (omega arith) (t.low_cells 5 (omega arith)) (good_reads _ (good.low_good 5 (omega arith))) in
-      let r6 = reads_in core (ir + 6) (ir + 6) (six low 6) (digit_of_cell (six low 6)) (omega arith) (omega arith) (t.low_cells 6 (omega arith)) (good_reads _ (good.low_good 6 (omega arith))) in
-      let r7 = reads_in core (ir + 7) (ir + 7) (six low 7) (digit_of_cell (six low 7)) (omega arith) (omega arith) (t.low_cells 7 (omega arith)) (good_reads _ (good.low_good 7 (omega arith))) in
-      let r8 = reads_in core (ir + 8) (ir + 8) (six low 8) (digit_of_cell (six low 8)) (omega arith) (omega arith) (t.low_cells 8 (omega arith)) (good_reads _ (good.low_good 8 (omega arith))) in
-      let r9 = reads_in core (ir + 9) (ir + 9) (six low 9) (digit_of_cell (six low 9)) (omega arith) (omega arith) (t.low_cells 9 (omega arith)) (good_reads _ (good.low_good 9 (omega arith))) in
-      let r10 = reads_in core (ir + 10 + 0) (ir + 10) (six high 0) (digit_of_cell (six high 0)) (omega arith) (omega arith) (t.high_cells 0 (omega arith)) (good_reads _ (good.high_good 0 (omega arith))) in
-      let r11 = reads_in core (ir + 10 + 1) (ir + 11) (six high 1) (digit_of_cell (six high 1)) (omega arith) (omega arith) (t.high_cells 1 (omega arith)) (good_reads _ (good.high_good 1 (omega arith))) in
-      let u12 = up_none core (ir + 12) in
-      let u11 = up_more core (ir + 11) (ir + 12) 0 (digit_of_cell (six high 1)) _ (omega arith) r11 u12 in
-      let u10 = up_more core (ir + 10) (ir + 11) 1 (digit_of_cell (six high 0)) _ (omega arith) r10 u11 in
-      let u9 = up_more core (ir + 9) (ir + 10) 2 (digit_of_cell (six low 9)) _ (omega arith) r9 u10 in
-      let u8 = up_more core (ir + 8) (ir + 9) 3 (digit_of_cell (six low 8)) _ (omega arith) r8 u9 in
-      let u7 = up_more core (ir + 7) (ir + 8) 4 (digit_of_cell (six low 7)) _ (omega arith) r7 u8 in
-      let u6 = up_more core (ir + 6) (ir + 7) 5 (digit_of_cell (six low 6)) _ (omega arith) r6 u7 in
-      let u5 = up_more core (ir + 5) (ir + 6) 6 (digit_of_cell (six low 5)) _ (omega arith) r5 u6 in
-      let u4 = up_more core (ir + 4) (ir + 5) 7 (digit_of_cell (six low 4)) _ (omega arith) r4 u5 in
-      let u3 = up_more core (ir + 3) (ir + 4) 8 (digit_of_cell (six low 3)) _ (omega arith) r3 u4 in
-      let u2 = up_more core (ir + 2) (ir + 3) 9 (digit_of_cell (six low 2)) _ (omega arith) r2 u3 in
-      let u1 = up_more core (ir + 1) (ir + 2) 10 (digit_of_cell (six low 1)) _ (omega arith) r1 u2 in
-      let u0 = up_more core ir (ir + 1) 11 (digit_of_cell (six low 0)) _ (omega arith) r0 u1 in
-      fetch_is core ir (digits_in low high) t.even u0
+  fetched = fetch_is core ir (digits_in low high) t.even (twelve_read core ir low high good inside t.low_cells t.high_cells)
 
   -- fields are the same wherever the cells stand
   same_fields : (u : Uses) (stores : MayStore) → fields_used u stores (instr_at 0 low high) ≡ fields_used u stores (instr_at ir low high)

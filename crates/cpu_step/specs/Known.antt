@@ -1,10 +1,9 @@
 -- What the twelve cells of an instruction come to, in whatever core and at whatever address they stand.
-use Rattle.std.specs.Prelude.{ℕ, ◌≡◌, ◌+◌, ◌*◌, ◌/◌, ◌%◌, ◌^◌, ◌<◌, ◌≤◌, ⊤, false, true, List, [], ◌∷◌, length, slice_index, Result, Ok, Err}
-use Rattle.digit_core.specs.declared.Digit.{Digit}
-use Rattle.digit_core.specs.{digit_of_cell, six, is_bad, size}
+use Rattle.std.specs.Prelude.{ℕ, ◌≡◌, ◌+◌, ◌*◌, ◌/◌, ◌%◌, ◌^◌, ◌<◌, ◌≤◌, ⊤, true, List, length, slice_index, Result, Ok, Err}
+use Rattle.digit_core.specs.{six, size}
 use Rattle.addr_indirect.specs.declared.Instr.{Instr}
 use Rattle.addr_indirect.specs.declared.Stop.{Stop}
-use Rattle.addr_indirect.specs.{fetch}
+use Rattle.addr_indirect.specs.{digits_in, fetch}
 use Rattle.instruction_table.specs.declared.MayStore.{MayStore}
 use Rattle.instruction_table.specs.declared.MayStore.TheVariants.{Nothing}
 use Rattle.instruction_table.specs.declared.BranchOp.{BranchOp}
@@ -22,24 +21,9 @@ use Rattle.cpu_step.specs.Rows.{instruction_row, takes_odd}
 use Rattle.cpu_step.specs.Act.{operands}
 use Rattle.cpu_step.specs.Fields.{fields_used, operands_from, operands_at, HoldOperands}
 
--- the digit of a word's cell number j
-abbrev pub word_digit : ℕ → ℕ → Digit
-word_digit w j = digit_of_cell (six w j)
-
--- the digits of twelve cells, ten in one word and two in another
-abbrev pub digits_in : ℕ → ℕ → List Digit
-digits_in low high =
-    word_digit low 0 ∷ word_digit low 1 ∷ word_digit low 2 ∷ word_digit low 3 ∷ word_digit low 4 ∷ word_digit low 5
-    ∷ word_digit low 6 ∷ word_digit low 7 ∷ word_digit low 8 ∷ word_digit low 9 ∷ word_digit high 0 ∷ word_digit high 1 ∷ []
-
--- the instruction that they are at ir
+-- the instruction that twelve cells are at ir, ten in one word and two in another
 abbrev pub instr_at : ℕ → ℕ → ℕ → Instr
 instr_at ir low high = record { at = ir; cells = digits_in low high }
-
--- all twelve are good
-pub record AreGood (low high : ℕ) : Type 0 where
-  pub low_good : (j : ℕ) → j < 10 → is_bad (six low j) ≡ false
-  pub high_good : (j : ℕ) → j < 2 → is_bad (six high j) ≡ false
 
 -- they stand at ir in a core of size m
 pub record AreTwelve (m : ℕ) (core : List ℕ) (ir low high : ℕ) : Type 0 where

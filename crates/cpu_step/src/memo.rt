@@ -1,15 +1,15 @@
 // What instructions came to before.
-ghost use Rattle.std.specs.Prelude.{ℕ, ◌≡◌, ◌+◌, ◌≤◌, ◌<◌, ◌%◌, ◌^◌, length, IfOk, IfSome, false, true};
+ghost use Rattle.std.specs.Prelude.{ℕ, ◌≡◌, ◌+◌, ◌≤◌, ◌<◌, ◌%◌, ◌^◌, length, IfOk, false, true};
 ghost use Rattle.digit_core.specs.Size.{IsSize, size};
 ghost use Rattle.digit_core.specs.Packed.{six, ten_across};
 ghost use Rattle.cpu_step.specs.Fields.{is_chained, operands_from};
-ghost use Rattle.cpu_step.specs.Known.{AreGood, AreKnown, IsKnown, IsPlace, IsRow, instr_at, two_from};
+ghost use Rattle.cpu_step.specs.Known.{AreKnown, IsKnown, IsPlace, IsRow, two_from};
 
 use crate::fields::{Fields, decoded_row};
 use crate::further::FurtherFields;
 use crate::rows::{Operands, Row};
-use addr_indirect::{Instr, Stop};
-use digit_core::{Core, are_good, are_good_at, digit_in, ones_below, ten_across};
+use addr_indirect::{Instr, Stop, good_digits};
+use digit_core::{Core, ten_across};
 use instruction_table::BranchOp;
 use std::alloc::{AllocError, Global};
 
@@ -196,40 +196,10 @@ fn decode<const M: u32>(low: u64, high: u64, core: &Core<M>, ir: u32) -> Known
     requires { ir + 12 ≤ size M }
     ensures { AreKnown M low high result }
 {
-    match good_instr(low, high) {
-        Some(i) => known_by(&i, core, ir),
+    match good_digits(low, high) {
+        Some(cells) => known_by(&Instr { at: 0, cells }, core, ir),
         None => Known::Other,
     }
-}
-
-// The instruction of twelve good cells, ten and the lowest two of another word, as it would be at 00000.
-fn good_instr(low: u64, high: u64) -> Option<Instr>
-    ensures is { IfSome result (λ i. i ≡ instr_at 0 low high) }
-    ensures good { IfSome result (λ _. AreGood low high) }
-{
-    if !are_good(low) {
-        return None;
-    }
-    if !are_good_at(high, ones_below(2)) {
-        return None;
-    }
-    let d0 = digit_in(low, 0);
-    let d1 = digit_in(low, 1);
-    let d2 = digit_in(low, 2);
-    let d3 = digit_in(low, 3);
-    let d4 = digit_in(low, 4);
-    let d5 = digit_in(low, 5);
-    let d6 = digit_in(low, 6);
-    let d7 = digit_in(low, 7);
-    let d8 = digit_in(low, 8);
-    let d9 = digit_in(low, 9);
-    let d10 = digit_in(high, 0);
-    let d11 = digit_in(high, 1);
-    let digits = [d0, d1, d2, d3, d4, d5, d6, d7, d8, d9, d10, d11];
-    Some(Instr {
-        at: 0,
-        cells: digits,
-    })
 }
 
 // What an instruction comes to by its digits, which stand at `ir`. It stays a function of its own: then the compiler sees that `decode`

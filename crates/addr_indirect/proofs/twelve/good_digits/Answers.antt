@@ -1,46 +1,43 @@
 -- Good cells are the digits that are read.
 use Rattle.std.proofs.Common.{refl, arith}
-use Rattle.cpu_step.proofs.Knowing.{read_is}
-use Rattle.cpu_step.proofs.memo.good_instr.Goals as goal
+use Rattle.addr_indirect.proofs.TwelveCells.{read_is}
+use Rattle.addr_indirect.proofs.twelve.good_digits.Goals as goal
 
 pub digit_in-d0-requires-clause-good : goal.digit_in-d0-requires-clause-good
-digit_in-d0-requires-clause-good c = c.if-not-are_good.ensures.yes refl 0 (omega arith)
+digit_in-d0-requires-clause-good c = (c.twelve_are_good.ensures.yes c.if-not-twelve_are_good.false).low_good 0 (omega arith)
 
 pub digit_in-d1-requires-clause-good : goal.digit_in-d1-requires-clause-good
-digit_in-d1-requires-clause-good c = c.if-not-are_good.ensures.yes refl 1 (omega arith)
+digit_in-d1-requires-clause-good c = (c.twelve_are_good.ensures.yes c.if-not-twelve_are_good.false).low_good 1 (omega arith)
 
 pub digit_in-d2-requires-clause-good : goal.digit_in-d2-requires-clause-good
-digit_in-d2-requires-clause-good c = c.if-not-are_good.ensures.yes refl 2 (omega arith)
+digit_in-d2-requires-clause-good c = (c.twelve_are_good.ensures.yes c.if-not-twelve_are_good.false).low_good 2 (omega arith)
 
 pub digit_in-d3-requires-clause-good : goal.digit_in-d3-requires-clause-good
-digit_in-d3-requires-clause-good c = c.if-not-are_good.ensures.yes refl 3 (omega arith)
+digit_in-d3-requires-clause-good c = (c.twelve_are_good.ensures.yes c.if-not-twelve_are_good.false).low_good 3 (omega arith)
 
 pub digit_in-d4-requires-clause-good : goal.digit_in-d4-requires-clause-good
-digit_in-d4-requires-clause-good c = c.if-not-are_good.ensures.yes refl 4 (omega arith)
+digit_in-d4-requires-clause-good c = (c.twelve_are_good.ensures.yes c.if-not-twelve_are_good.false).low_good 4 (omega arith)
 
 pub digit_in-d5-requires-clause-good : goal.digit_in-d5-requires-clause-good
-digit_in-d5-requires-clause-good c = c.if-not-are_good.ensures.yes refl 5 (omega arith)
+digit_in-d5-requires-clause-good c = (c.twelve_are_good.ensures.yes c.if-not-twelve_are_good.false).low_good 5 (omega arith)
 
 pub digit_in-d6-requires-clause-good : goal.digit_in-d6-requires-clause-good
-digit_in-d6-requires-clause-good c = c.if-not-are_good.ensures.yes refl 6 (omega arith)
+digit_in-d6-requires-clause-good c = (c.twelve_are_good.ensures.yes c.if-not-twelve_are_good.false).low_good 6 (omega arith)
 
 pub digit_in-d7-requires-clause-good : goal.digit_in-d7-requires-clause-good
-digit_in-d7-requires-clause-good c = c.if-not-are_good.ensures.yes refl 7 (omega arith)
+digit_in-d7-requires-clause-good c = (c.twelve_are_good.ensures.yes c.if-not-twelve_are_good.false).low_good 7 (omega arith)
 
 pub digit_in-d8-requires-clause-good : goal.digit_in-d8-requires-clause-good
-digit_in-d8-requires-clause-good c = c.if-not-are_good.ensures.yes refl 8 (omega arith)
+digit_in-d8-requires-clause-good c = (c.twelve_are_good.ensures.yes c.if-not-twelve_are_good.false).low_good 8 (omega arith)
 
 pub digit_in-d9-requires-clause-good : goal.digit_in-d9-requires-clause-good
-digit_in-d9-requires-clause-good c = c.if-not-are_good.ensures.yes refl 9 (omega arith)
+digit_in-d9-requires-clause-good c = (c.twelve_are_good.ensures.yes c.if-not-twelve_are_good.false).low_good 9 (omega arith)
 
 pub digit_in-d10-requires-clause-good : goal.digit_in-d10-requires-clause-good
-digit_in-d10-requires-clause-good c = c.if-not-are_good_at.ensures.yes refl 0 (omega arith) (c.ones_below.ensures.named 0 (omega arith))
+digit_in-d10-requires-clause-good c = (c.twelve_are_good.ensures.yes c.if-not-twelve_are_good.false).high_good 0 (omega arith)
 
 pub digit_in-d11-requires-clause-good : goal.digit_in-d11-requires-clause-good
-digit_in-d11-requires-clause-good c = c.if-not-are_good_at.ensures.yes refl 1 (omega arith) (c.ones_below.ensures.named 1 (omega arith))
-
-pub returns-clause-good : goal.returns-clause-good
-returns-clause-good c = record { low_good = c.if-not-are_good.ensures.yes refl; high_good = λ j below. c.if-not-are_good_at.ensures.yes refl j (omega arith) (c.ones_below.ensures.named j below) }
+digit_in-d11-requires-clause-good c = (c.twelve_are_good.ensures.yes c.if-not-twelve_are_good.false).high_good 1 (omega arith)
 
 pub returns-clause-is : goal.returns-clause-is
 returns-clause-is c =
