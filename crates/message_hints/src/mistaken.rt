@@ -5,6 +5,7 @@ ghost use Rattle.message_hints.specs.Mistakes.{confusion_text};
 
 use crate::escapes::Escaped;
 use crate::sheet::{Columns, OPERATION};
+use card_code::object_digit;
 use outside_io::Unit;
 use read_checks::BadCharacter;
 use sps_listing::RefusedLine;
@@ -35,13 +36,8 @@ fn is_deck(refused: &RefusedLine) -> bool {
     let digits = instruction.iter().filter(|b| b.is_ascii_digit()).count();
     refused.statement <= LAST_STATEMENT
         && digits >= FEWEST_DIGITS
-        && instruction.iter().all(|b| is_digit(*b))
+        && instruction.iter().all(|b| object_digit(*b).is_some())
         && lookup(OPERATION.of(line)).is_none()
-}
-
-// Whether the byte is a character that a digit is typed as.
-fn is_digit(byte: u8) -> bool {
-    matches!(byte, b'0'..=b'9' | b'J'..=b'R' | b']' | b'|' | b'!' | b'@' | b'*' | b'}' | b'"')
 }
 
 /// A machine that stopped behind the Load key.
