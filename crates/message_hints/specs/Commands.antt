@@ -16,14 +16,14 @@ command_word Trial = codes "trial"
 command_word Disk = codes "disk"
 
 -- what a command does
-abbrev pub task : Command → List ℕ
-task Assemble = ASSEMBLES.now
-task Load = LOADS.now
-task Run = RUNS.now
-task Debug = DEBUGS.now
-task Generate = GENERATES.now
-task Trial = TRIES.now
-task Disk = PLACES.now
+abbrev pub task_of : Command → List ℕ
+task_of Assemble = ASSEMBLES.now
+task_of Load = LOADS.now
+task_of Run = RUNS.now
+task_of Debug = DEBUGS.now
+task_of Generate = GENERATES.now
+task_of Trial = TRIES.now
+task_of Disk = PLACES.now
 
 -- an option, as it is told: its word, what stands for its value, and what is said of it
 pub record Told : Type 0 where
@@ -35,21 +35,21 @@ abbrev pub told : List ℕ → List ℕ → List ℕ → Told
 told word value said = record { word = word; value = value; said = said }
 
 -- what a command has to be given
-abbrev pub required : Command → List Told
-required Assemble = map (λ r. told r.0.now r.1.now r.2.now) A_SOURCE
-required Load = map (λ r. told r.0.now r.1.now r.2.now) A_DECK
-required Run = map (λ r. told r.0.now r.1.now r.2.now) A_SOURCE
-required Debug = map (λ r. told r.0.now r.1.now r.2.now) SOURCE_AND_COMMANDS
-required Generate = map (λ r. told r.0.now r.1.now r.2.now) BOTH_NUMBERS
-required Trial = map (λ r. told r.0.now r.1.now r.2.now) BOTH_NUMBERS
-required Disk = map (λ r. told r.0.now r.1.now r.2.now) SOURCE_AND_PACK
+abbrev pub needed_options : Command → List Told
+needed_options Assemble = map (λ r. told r.0.now r.1.now r.2.now) A_SOURCE
+needed_options Load = map (λ r. told r.0.now r.1.now r.2.now) A_DECK
+needed_options Run = map (λ r. told r.0.now r.1.now r.2.now) A_SOURCE
+needed_options Debug = map (λ r. told r.0.now r.1.now r.2.now) SOURCE_AND_COMMANDS
+needed_options Generate = map (λ r. told r.0.now r.1.now r.2.now) BOTH_NUMBERS
+needed_options Trial = map (λ r. told r.0.now r.1.now r.2.now) BOTH_NUMBERS
+needed_options Disk = map (λ r. told r.0.now r.1.now r.2.now) SOURCE_AND_PACK
 
 -- what it may be given besides
-abbrev pub others : Command → List Told
-others Assemble = map (λ r. told r.0.now r.1.now r.2.now) FOR_ASSEMBLE
-others Load = map (λ r. told r.0.now r.1.now r.2.now) FOR_LOAD
-others Run = map (λ r. told r.0.now r.1.now r.2.now) FOR_RUN
-others Debug = map (λ r. told r.0.now r.1.now r.2.now) FOR_DEBUG
-others Generate = map (λ r. told r.0.now r.1.now r.2.now) FOR_GENERATE
-others Trial = map (λ r. told r.0.now r.1.now r.2.now) FOR_TRIAL
-others Disk = map (λ r. told r.0.now r.1.now r.2.now) FOR_DISK
+abbrev pub other_options : Command → List Told
+other_options Assemble = map (λ r. told r.0.now r.1.now r.2.now) FOR_ASSEMBLE
+other_options Load = map (λ r. told r.0.now r.1.now r.2.now) FOR_LOAD
+other_options Run = map (λ r. told r.0.now r.1.now r.2.now) FOR_RUN
+other_options Debug = map (λ r. told r.0.now r.1.now r.2.now) FOR_DEBUG
+other_options Generate = map (λ r. told r.0.now r.1.now r.2.now) FOR_GENERATE
+other_options Trial = map (λ r. told r.0.now r.1.now r.2.now) FOR_TRIAL
+other_options Disk = map (λ r. told r.0.now r.1.now r.2.now) FOR_DISK

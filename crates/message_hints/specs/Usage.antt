@@ -3,7 +3,7 @@
 use Rattle.std.specs.Prelude.{ℕ, ◌-◌, Option, None, Some, List, [], ◌++◌, codes, length, flat_map}
 use Rattle.command_line.specs.declared.words.Command.{Command}
 use Rattle.command_line.specs.declared.words.Command.TheVariants.{Assemble, Load, Run, Debug, Generate, Trial, Disk}
-use Rattle.message_hints.specs.Commands.{Told, command_word, task, required, others}
+use Rattle.message_hints.specs.Commands.{Told, command_word, task_of, needed_options, other_options}
 use Rattle.message_hints.specs.Sheet.{blanks}
 
 -- an option with what stands for its value, as it is written behind the word of its command
@@ -20,11 +20,11 @@ option_line ending o =
 unfoldable pub command_usage : Command → List ℕ
 command_usage command =
     codes "\nibm1620 " ++ (command_word command
-    ++ (flat_map option_words (required command)
+    ++ (flat_map option_words (needed_options command)
     ++ (codes " [OPTION VALUE]..\n  "
-    ++ (task command
+    ++ (task_of command
     ++ (codes "\n"
-    ++ (flat_map (option_line (codes " (required)")) (required command) ++ flat_map (option_line []) (others command)))))))
+    ++ (flat_map (option_line (codes " (required)")) (needed_options command) ++ flat_map (option_line []) (other_options command)))))))
 
 -- how those behind `run` are used
 unfoldable pub others_usage : List ℕ

@@ -1,6 +1,6 @@
 // The commands: their words, their options, and what value an option takes. What is said of options stands here alone.
 ghost use Rattle.std.specs.Prelude.{◌≡◌, map};
-ghost use Rattle.message_hints.specs.Commands.{command_word, others, required, task, told};
+ghost use Rattle.message_hints.specs.Commands.{command_word, needed_options, other_options, task_of, told};
 
 use command_line::{COMMANDS, Command};
 
@@ -283,7 +283,7 @@ pub(crate) fn word_of(command: Command) -> &'static str
 
 // What a command does.
 pub(crate) fn task_of(command: Command) -> &'static str
-    ensures { result.now ≡ task command }
+    ensures { result.now ≡ task_of command }
 {
     match command {
         Command::Assemble => ASSEMBLES,
@@ -297,8 +297,8 @@ pub(crate) fn task_of(command: Command) -> &'static str
 }
 
 // What a command has to be given.
-pub(crate) fn required(command: Command) -> &'static [OptionRow]
-    ensures { map (λ r. told r.0.now r.1.now r.2.now) result.now ≡ required command }
+pub(crate) fn needed_options(command: Command) -> &'static [OptionRow]
+    ensures { map (λ r. told r.0.now r.1.now r.2.now) result.now ≡ needed_options command }
 {
     match command {
         Command::Assemble | Command::Run => &A_SOURCE,
@@ -310,8 +310,8 @@ pub(crate) fn required(command: Command) -> &'static [OptionRow]
 }
 
 // What a command may be given besides.
-pub(crate) fn others(command: Command) -> &'static [OptionRow]
-    ensures { map (λ r. told r.0.now r.1.now r.2.now) result.now ≡ others command }
+pub(crate) fn other_options(command: Command) -> &'static [OptionRow]
+    ensures { map (λ r. told r.0.now r.1.now r.2.now) result.now ≡ other_options command }
 {
     match command {
         Command::Assemble => &FOR_ASSEMBLE,
@@ -336,9 +336,9 @@ fn setting_among(rows: &'static [OptionRow], word: &str) -> Option<Setting> {
 
 // The option of a command with this word behind its hyphens.
 pub(crate) fn setting_of(command: Command, word: &str) -> Option<Setting> {
-    match setting_among(required(command), word) {
+    match setting_among(needed_options(command), word) {
         Some(setting) => Some(setting),
-        None => setting_among(others(command), word),
+        None => setting_among(other_options(command), word),
     }
 }
 

@@ -1,5 +1,5 @@
 // The first word of the command line that does not fit, and why.
-use crate::commands::{Kind, Setting, is_of_others, required, setting_of};
+use crate::commands::{Kind, Setting, is_of_others, needed_options, setting_of};
 use crate::problems::{Misuse, Problem, Takers, Wrong};
 use command_line::{Command, command_of};
 use line_words::{number, number_in};
@@ -103,7 +103,7 @@ fn without_hyphens(command: Command, option: &str) -> Wrong {
 
 // A word where an option is wanted is often the name of a file, of the first option that the command needs.
 fn no_hyphens(command: Command) -> Wrong {
-    match required(command).first() {
+    match needed_options(command).first() {
         Some(row) => Wrong::NoHyphens(Setting::of(row)),
         None => Wrong::NoOption,
     }
@@ -157,7 +157,7 @@ fn unfit(setting: Setting, value: &str) -> Option<Wrong> {
 
 // The first option that the command needs and the words have not.
 fn missing(command: Command, words: &[String]) -> Option<Setting> {
-    for row in required(command) {
+    for row in needed_options(command) {
         let setting = Setting::of(row);
         if !is_there(words, setting) {
             return Some(setting);

@@ -3,7 +3,7 @@ ghost use Rattle.std.specs.Prelude.{Some, flat_map, map};
 ghost use Rattle.message_hints.specs.Commands.{told};
 ghost use Rattle.message_hints.specs.Usage.{command_usage, commands_usage, option_line, option_words, others_usage, usage_of, usage_text};
 
-use crate::commands::{OptionRow, others, required, task_of, word_of};
+use crate::commands::{OptionRow, needed_options, other_options, task_of, word_of};
 use crate::runs::Blanks;
 use command_line::Command;
 use std::fmt;
@@ -92,14 +92,14 @@ impl fmt::Display for CommandUsage {
     fn fmt<W: fmt::Write>(&self, f: &mut fmt::Formatter<W>) -> fmt::Result {
         let word = word_of(self.0);
         let task = task_of(self.0);
-        let needed = required(self.0);
-        let more = others(self.0);
+        let needed = needed_options(self.0);
+        let others = other_options(self.0);
         let options = OptionWords(needed);
-        let required = OptionLines(needed, " (required)");
-        let others = OptionLines(more, "");
+        let needed_lines = OptionLines(needed, " (required)");
+        let other_lines = OptionLines(others, "");
         write!(
             f,
-            "\nibm1620 {word}{options} [OPTION VALUE]..\n  {task}\n{required}{others}"
+            "\nibm1620 {word}{options} [OPTION VALUE]..\n  {task}\n{needed_lines}{other_lines}"
         )
     }
 }

@@ -8,5 +8,5 @@ unfolding command_usage
 returns-clause-writes g c plain ok =
     has_written_of_eq _ _ _ _ _
     (rw c.word_of-word.ensures
-    (rw c.task_of-task.ensures (rw c.required-needed.ensures (rw c.others-more.ensures refl))))
+    (rw c.task_of-task.ensures (rw c.needed_options-needed.ensures (rw c.other_options-others.ensures refl))))
     (c.write.ensures.writes plain ok)
