@@ -18,9 +18,9 @@ abbrev pub file_of : Read → unit.Unit → Option (List ℕ)
 file_of read u = file_in read.said u
 
 -- the size of core by what was read, and the smallest where it is not known
-abbrev pub core_in : Result (Option Plain) AllocError → CoreSize
-core_in (Ok (Some plain)) = plain.core
-core_in said = OneModule
+abbrev pub core_by : Result (Option Plain) AllocError → CoreSize
+core_by (Ok (Some plain)) = plain.core
+core_by said = OneModule
 
 abbrev pub core_of : Read → CoreSize
-core_of read = core_in read.said
+core_of read = core_by read.said

@@ -59,7 +59,7 @@ fn number_or(least: u64, most: u64, standard: u64, text: Option<&str>) -> Option
 }
 
 // The form of the object deck.
-fn form_of(values: &Values<'_>) -> Option<DeckForm>
+fn form_in(values: &Values<'_>) -> Option<DeckForm>
     ensures { result ≡ form_in (values_in values.now) }
 {
     match values.get(Slot::Form) {
@@ -69,7 +69,7 @@ fn form_of(values: &Values<'_>) -> Option<DeckForm>
 }
 
 // The size of core.
-fn core_of(values: &Values<'_>) -> Option<CoreSize>
+fn core_in(values: &Values<'_>) -> Option<CoreSize>
     ensures { result ≡ core_in (values_in values.now) }
 {
     match values.get(Slot::Core) {
@@ -79,7 +79,7 @@ fn core_of(values: &Values<'_>) -> Option<CoreSize>
 }
 
 // The settings of a job, where each of them can be read.
-fn settings_of(values: &Values<'_>) -> Option<Settings>
+fn settings_in(values: &Values<'_>) -> Option<Settings>
     ensures is { result ≡ settings_in (values_in values.now) }
     ensures fits { IfSome result (λ settings. AreNumbers settings.statements settings.number) }
 {
@@ -91,7 +91,7 @@ fn settings_of(values: &Values<'_>) -> Option<Settings>
         values.get(Slot::Statements),
     )?;
     let number = number_or(0, LAST_SOURCE, 0, values.get(Slot::Number))?;
-    let form = form_of(values)?;
+    let form = form_in(values)?;
     Some(Settings {
         limit,
         statements: statements as u32,
@@ -104,8 +104,8 @@ fn settings_of(values: &Values<'_>) -> Option<Settings>
 pub(crate) fn read<'a>(command: Command, values: &Values<'a>) -> Option<Plain<'a>>
     ensures { MeansJust (reading command (values_in values.now)) result }
 {
-    let settings = settings_of(values)?;
-    let core = core_of(values)?;
+    let settings = settings_in(values)?;
+    let core = core_in(values)?;
     Some(Plain {
         command,
         names: Names { values: *values },
