@@ -11,7 +11,11 @@ use Rattle.message_hints.specs.declared.problems.Misuse.TheVariants.{NoWords, No
 use Rattle.message_hints.specs.declared.problems.Problem.{Problem}
 use Rattle.message_hints.specs.declared.problems.Takers.{Takers}
 use Rattle.message_hints.specs.declared.problems.Wrong.{Wrong}
-use Rattle.message_hints.specs.declared.problems.Wrong.TheVariants.{NoHyphens, OneHyphen, Equals, OfOthers, NoOption, Twice, NoValue, Empty, Hyphen, Hyphens, OutOfRange, Unfit, Missing, Unclear}
+use Rattle.message_hints.specs.declared.problems.Wrong.TheVariants.{NoOption, Flawed, Missing, Unclear}
+use Rattle.message_hints.specs.declared.problems.Stray.{Stray}
+use Rattle.message_hints.specs.declared.problems.Stray.TheVariants.{NoHyphens, OneHyphen, Equals, OfOthers, Unknown}
+use Rattle.message_hints.specs.declared.problems.Flaw.{Flaw}
+use Rattle.message_hints.specs.declared.problems.Flaw.TheVariants.{Twice, NoValue, Empty, Hyphen, Hyphens, OutOfRange, Unfit}
 use Rattle.message_hints.specs.Commands.{command_word}
 use Rattle.message_hints.specs.Escapes.{escaped_text}
 use Rattle.message_hints.specs.Usage.{usage_text}
@@ -51,26 +55,34 @@ takers_text t =
     taker_text t.assemble Assemble ++ taker_text t.load Load ++ taker_text t.run Run ++ taker_text t.debug Debug
     ++ taker_text t.generate Generate ++ taker_text t.trial Trial ++ taker_text t.disk Disk
 
--- why a word behind a command does not fit, both as they are shown
-abbrev pub wrong_text : Command → List ℕ → Wrong → List ℕ
-wrong_text command word (NoHyphens s) =
+-- why a word is no option of a command, the word as it is shown
+abbrev pub stray_text : Command → List ℕ → Stray → List ℕ
+stray_text command word (NoHyphens s) =
     word ++ codes " stands where an option is wanted\nibm1620: each word behind an option is its value, as in --" ++ s.word.now ++ codes " " ++ word
     ++ codes "\n"
-wrong_text command word OneHyphen = word ++ codes " has one hyphen: write -" ++ word ++ codes "\n"
-wrong_text command word Equals = word ++ codes ": write a blank in place of the =\n"
-wrong_text command word (OfOthers takers) =
+stray_text command word OneHyphen = word ++ codes " has one hyphen: write -" ++ word ++ codes "\n"
+stray_text command word Equals = word ++ codes ": write a blank in place of the =\n"
+stray_text command word (OfOthers takers) =
     word ++ codes " is no option of " ++ command_word command ++ codes ", but of these commands:" ++ takers_text takers ++ codes "\n"
-wrong_text command word NoOption = word ++ codes " is no option of " ++ command_word command ++ codes "; these are:\n"
-wrong_text command word (Twice s) = codes "--" ++ s.word.now ++ codes " is given twice\n"
-wrong_text command word (NoValue s) =
+stray_text command word Unknown = word ++ codes " is no option of " ++ command_word command ++ codes "; these are:\n"
+
+-- what is wrong with an option of a command, or with the word behind it, which is as it is shown
+abbrev pub flaw_text : Command → List ℕ → Setting → Flaw → List ℕ
+flaw_text command word s Twice = codes "--" ++ s.word.now ++ codes " is given twice\n"
+flaw_text command word s NoValue =
     codes "--" ++ s.word.now ++ codes " has no value behind it: write --" ++ s.word.now ++ codes " " ++ s.value.now ++ codes "\n"
-wrong_text command word (Empty s) = codes "--" ++ s.word.now ++ codes " has an empty word behind it\n"
-wrong_text command word (Hyphen s) = codes "--" ++ s.word.now ++ codes " -: a hyphen is no value\n" ++ standard_text command s
-wrong_text command word (Hyphens s) =
+flaw_text command word s Empty = codes "--" ++ s.word.now ++ codes " has an empty word behind it\n"
+flaw_text command word s Hyphen = codes "--" ++ s.word.now ++ codes " -: a hyphen is no value\n" ++ standard_text command s
+flaw_text command word s Hyphens =
     codes "--" ++ s.word.now ++ codes " has no value: " ++ word ++ codes " behind it begins with a hyphen, as no value does\n"
-wrong_text command word (OutOfRange s least most) =
+flaw_text command word s (OutOfRange least most) =
     codes "--" ++ s.word.now ++ codes " " ++ word ++ codes ": the number is not " ++ decimal least ++ codes " to " ++ decimal most ++ codes "\n"
-wrong_text command word (Unfit s) = codes "--" ++ s.word.now ++ codes " " ++ word ++ codes ": " ++ fit_text s.kind
+flaw_text command word s Unfit = codes "--" ++ s.word.now ++ codes " " ++ word ++ codes ": " ++ fit_text s.kind
+
+-- why a word behind a command does not fit, both as they are shown
+abbrev pub wrong_text : Command → List ℕ → Wrong → List ℕ
+wrong_text command word (NoOption stray) = stray_text command word stray
+wrong_text command word (Flawed s flaw) = flaw_text command word s flaw
 wrong_text command word (Missing s) = command_word command ++ codes " needs --" ++ s.word.now ++ codes " " ++ s.value.now ++ codes "\n"
 wrong_text command word Unclear = codes "the words behind " ++ command_word command ++ codes " are not these options:\n"
 

@@ -1,6 +1,6 @@
 // The first word of the command line that does not fit, and why.
 use crate::commands::{Kind, Setting, is_of_others, needed_options, setting_of};
-use crate::problems::{Misuse, Problem, Takers, Wrong};
+use crate::problems::{Flaw, Misuse, Problem, Stray, Takers, Wrong};
 use command_line::{Command, command_of};
 use line_words::{number, number_in};
 
@@ -48,9 +48,14 @@ fn in_pair<'w>(
     let option = pair.first()?.as_str();
     let value = value_in(pair);
     let (word, wrong) = match option_of(command, option) {
-        Err(wrong) => (option, wrong),
-        Ok(setting) if is_given(words, place, option) => (option, Wrong::Twice(setting)),
-        Ok(setting) => (value.unwrap_or(""), wrong_value(setting, value)?),
+        Err(stray) => (option, Wrong::NoOption(stray)),
+        Ok(setting) if is_given(words, place, option) => {
+            (option, Wrong::Flawed(setting, Flaw::Twice))
+        }
+        Ok(setting) => {
+            let flaw = flaw_of(setting, value)?;
+            (value.unwrap_or(""), Wrong::Flawed(setting, flaw))
+        }
     };
     Some(Problem {
         command,
@@ -82,7 +87,7 @@ fn is_option(pair: &[String], option: &str) -> bool {
 }
 
 // The option of a word, or why it is none.
-fn option_of(command: Command, option: &str) -> Result<Setting, Wrong> {
+fn option_of(command: Command, option: &str) -> Result<Setting, Stray> {
     let Some(word) = option.strip_prefix("--") else {
         return Err(without_hyphens(command, option));
     };
@@ -93,64 +98,60 @@ fn option_of(command: Command, option: &str) -> Result<Setting, Wrong> {
 }
 
 // Why a word that does not begin with two hyphens is no option.
-fn without_hyphens(command: Command, option: &str) -> Wrong {
+fn without_hyphens(command: Command, option: &str) -> Stray {
     match option.strip_prefix('-') {
         None => no_hyphens(command),
-        Some(word) if setting_of(command, word).is_some() => Wrong::OneHyphen,
-        Some(_) => Wrong::NoOption,
+        Some(word) if setting_of(command, word).is_some() => Stray::OneHyphen,
+        Some(_) => Stray::Unknown,
     }
 }
 
 // A word where an option is wanted is often the name of a file, of the first option that the command needs.
-fn no_hyphens(command: Command) -> Wrong {
+fn no_hyphens(command: Command) -> Stray {
     match needed_options(command).first() {
-        Some(row) => Wrong::NoHyphens(Setting::of(row)),
-        None => Wrong::NoOption,
+        Some(row) => Stray::NoHyphens(Setting::of(row)),
+        None => Stray::Unknown,
     }
 }
 
 // Why the command has no option of this word.
-fn no_option(word: &str) -> Wrong {
+fn no_option(word: &str) -> Stray {
     if is_of_others(word) {
-        return Wrong::OfOthers(takers_of(word));
+        return Stray::OfOthers(takers_of(word));
     }
     match word.split_once('=') {
-        Some((front, _)) if is_of_others(front) => Wrong::Equals,
-        _ => Wrong::NoOption,
+        Some((front, _)) if is_of_others(front) => Stray::Equals,
+        _ => Stray::Unknown,
     }
 }
 
 // Why this is no value for the option; none where it is one.
-fn wrong_value(setting: Setting, value: Option<&str>) -> Option<Wrong> {
+fn flaw_of(setting: Setting, value: Option<&str>) -> Option<Flaw> {
     let Some(value) = value else {
-        return Some(Wrong::NoValue(setting));
+        return Some(Flaw::NoValue);
     };
     if value.is_empty() {
-        Some(Wrong::Empty(setting))
+        Some(Flaw::Empty)
     } else if value == "-" {
-        Some(Wrong::Hyphen(setting))
+        Some(Flaw::Hyphen)
     } else if value.starts_with('-') {
-        Some(Wrong::Hyphens(setting))
+        Some(Flaw::Hyphens)
     } else {
-        unfit(setting, value)
+        unfit(setting.kind, value)
     }
 }
 
 // Why a value that does not begin with a hyphen does not fit; none where it does.
-fn unfit(setting: Setting, value: &str) -> Option<Wrong> {
-    match setting.kind {
+fn unfit(kind: Kind, value: &str) -> Option<Flaw> {
+    match kind {
         Kind::Number { least, most } if number_in(least, most, value.as_bytes()).is_some() => None,
         Kind::Number { least, most } if number(value.as_bytes()).is_some() => {
-            Some(Wrong::OutOfRange {
-                setting,
-                least,
-                most,
-            })
+            Some(Flaw::OutOfRange { least, most })
         }
-        Kind::Number { .. } => Some(Wrong::Unfit(setting)),
+        Kind::Number { .. } => Some(Flaw::Unfit),
         Kind::Form if matches!(value, "self" | "dense") => None,
         Kind::Core if matches!(value, "20000" | "40000" | "60000") => None,
-        Kind::Form | Kind::Core => Some(Wrong::Unfit(setting)),
+        Kind::Form | Kind::Core => Some(Flaw::Unfit),
         Kind::Input | Kind::Output | Kind::Pack => None,
     }
 }

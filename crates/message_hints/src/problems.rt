@@ -1,7 +1,8 @@
 // Which word of a command line does not fit, and why, as it is told.
 // Source: this project's own.
 ghost use Rattle.std.specs.Prelude.{Some};
-ghost use Rattle.message_hints.specs.Problems.{fit_text, misuse_text, problem_text, standard_text, taker_text, takers_text};
+ghost use Rattle.message_hints.specs.Escapes.{escaped_text};
+ghost use Rattle.message_hints.specs.Problems.{fit_text, flaw_text, misuse_text, problem_text, standard_text, stray_text, taker_text, takers_text};
 
 use crate::commands::{Kind, Setting, word_of};
 use crate::escapes::Escaped;
@@ -62,6 +63,19 @@ pub struct Problem<'w> {
 // Why a word does not fit.
 #[derive(Clone, Copy)]
 pub(crate) enum Wrong {
+    // A word where an option is wanted is none of the command's.
+    NoOption(Stray),
+    // An option of the command has a flaw.
+    Flawed(Setting, Flaw),
+    // An option that the command needs is not there.
+    Missing(Setting),
+    // Nothing is found that does not fit.
+    Unclear,
+}
+
+// Why a word is no option of the command.
+#[derive(Clone, Copy)]
+pub(crate) enum Stray {
     // It stands where an option is wanted, as this one, and has no hyphens.
     NoHyphens(Setting),
     // It is one hyphen and the word of an option.
@@ -71,42 +85,81 @@ pub(crate) enum Wrong {
     // It is an option of other commands.
     OfOthers(Takers),
     // No command has this option.
-    NoOption,
+    Unknown,
+}
+
+// What is wrong with an option that the command takes, or with the value behind it.
+#[derive(Clone, Copy)]
+pub(crate) enum Flaw {
     // The option was there before.
-    Twice(Setting),
+    Twice,
     // No word stands behind the option.
-    NoValue(Setting),
+    NoValue,
     // The word behind the option has no byte.
-    Empty(Setting),
+    Empty,
     // The value is a hyphen alone.
-    Hyphen(Setting),
+    Hyphen,
     // The value begins with a hyphen.
-    Hyphens(Setting),
+    Hyphens,
     // The value is a number out of the option's range.
     OutOfRange {
-        // The option.
-        setting: Setting,
         // The least that it may be.
         least: u64,
         // The most that it may be.
         most: u64,
     },
     // The value is not what this option needs.
-    Unfit(Setting),
-    // An option that the command needs is not there.
-    Missing(Setting),
-    // Nothing is found that does not fit.
-    Unclear,
+    Unfit,
 }
 
 impl fmt::Display for Problem<'_> {
     ghost output = { λ problem. Some (problem_text problem) };
 
     fn fmt<W: fmt::Write>(&self, f: &mut fmt::Formatter<W>) -> fmt::Result {
+        let command = self.command;
+        let word = self.word;
+        match self.wrong {
+            Wrong::NoOption(stray) => f.write(StrayWord {
+                command,
+                word,
+                stray,
+            }),
+            Wrong::Flawed(setting, flaw) => f.write(FlawedOption {
+                command,
+                word,
+                setting,
+                flaw,
+            }),
+            Wrong::Missing(setting) => {
+                let name = word_of(command);
+                let option = setting.word;
+                let value = setting.value;
+                write!(f, "{name} needs --{option} {value}\n")
+            }
+            Wrong::Unclear => {
+                let name = word_of(command);
+                write!(f, "the words behind {name} are not these options:\n")
+            }
+        }
+    }
+}
+
+// A word that is no option of the command, and why.
+#[derive(Clone, Copy)]
+struct StrayWord<'w> {
+    command: Command,
+    word: &'w str,
+    stray: Stray,
+}
+
+impl fmt::Display for StrayWord<'_> {
+    ghost output = { λ s. Some (stray_text s.command (escaped_text s.word.now) s.stray) };
+
+    fn fmt<W: fmt::Write>(&self, f: &mut fmt::Formatter<W>) -> fmt::Result {
         let command = word_of(self.command);
         let word = Escaped(self.word);
-        match &self.wrong {
-            Wrong::NoHyphens(setting) => {
+        match self.stray {
+            Stray::NoHyphens(setting) => {
                 let option = setting.word;
                 write!(
                     f,
@@ -114,66 +167,61 @@ impl fmt::Display for Problem<'_> {
                      ibm1620: each word behind an option is its value, as in --{option} {word}\n"
                 )
             }
-            Wrong::OneHyphen => write!(f, "{word} has one hyphen: write -{word}\n"),
-            Wrong::Equals => write!(f, "{word}: write a blank in place of the =\n"),
-            Wrong::OfOthers(takers) => write!(
+            Stray::OneHyphen => write!(f, "{word} has one hyphen: write -{word}\n"),
+            Stray::Equals => write!(f, "{word}: write a blank in place of the =\n"),
+            Stray::OfOthers(takers) => write!(
                 f,
                 "{word} is no option of {command}, but of these commands:{takers}\n"
             ),
-            Wrong::NoOption => write!(f, "{word} is no option of {command}; these are:\n"),
-            Wrong::Twice(setting) => {
-                let option = setting.word;
-                write!(f, "--{option} is given twice\n")
-            }
-            Wrong::NoValue(setting) => {
-                let option = setting.word;
-                let value = setting.value;
+            Stray::Unknown => write!(f, "{word} is no option of {command}; these are:\n"),
+        }
+    }
+}
+
+// An option of the command with the word behind it, and its flaw.
+#[derive(Clone, Copy)]
+struct FlawedOption<'w> {
+    command: Command,
+    word: &'w str,
+    setting: Setting,
+    flaw: Flaw,
+}
+
+impl fmt::Display for FlawedOption<'_> {
+    ghost output = { λ o. Some (flaw_text o.command (escaped_text o.word.now) o.setting o.flaw) };
+
+    fn fmt<W: fmt::Write>(&self, f: &mut fmt::Formatter<W>) -> fmt::Result {
+        let option = self.setting.word;
+        let word = Escaped(self.word);
+        match self.flaw {
+            Flaw::Twice => write!(f, "--{option} is given twice\n"),
+            Flaw::NoValue => {
+                let value = self.setting.value;
                 write!(
                     f,
                     "--{option} has no value behind it: write --{option} {value}\n"
                 )
             }
-            Wrong::Empty(setting) => {
-                let option = setting.word;
-                write!(f, "--{option} has an empty word behind it\n")
-            }
-            Wrong::Hyphen(setting) => {
-                let option = setting.word;
+            Flaw::Empty => write!(f, "--{option} has an empty word behind it\n"),
+            Flaw::Hyphen => {
                 let standard = Standard {
                     command: self.command,
-                    setting: *setting,
+                    setting: self.setting,
                 };
                 write!(f, "--{option} -: a hyphen is no value\n{standard}")
             }
-            Wrong::Hyphens(setting) => {
-                let option = setting.word;
-                write!(
-                    f,
-                    "--{option} has no value: {word} behind it begins with a hyphen, as no value does\n"
-                )
-            }
-            Wrong::OutOfRange {
-                setting,
-                least,
-                most,
-            } => {
-                let option = setting.word;
-                write!(
-                    f,
-                    "--{option} {word}: the number is not {least} to {most}\n"
-                )
-            }
-            Wrong::Unfit(setting) => {
-                let option = setting.word;
-                let fit = Fit(setting.kind);
+            Flaw::Hyphens => write!(
+                f,
+                "--{option} has no value: {word} behind it begins with a hyphen, as no value does\n"
+            ),
+            Flaw::OutOfRange { least, most } => write!(
+                f,
+                "--{option} {word}: the number is not {least} to {most}\n"
+            ),
+            Flaw::Unfit => {
+                let fit = Fit(self.setting.kind);
                 write!(f, "--{option} {word}: {fit}")
             }
-            Wrong::Missing(setting) => {
-                let option = setting.word;
-                let value = setting.value;
-                write!(f, "{command} needs --{option} {value}\n")
-            }
-            Wrong::Unclear => write!(f, "the words behind {command} are not these options:\n"),
         }
     }
 }

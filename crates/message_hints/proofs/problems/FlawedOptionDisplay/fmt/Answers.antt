@@ -1,30 +1,10 @@
 use Rattle.std.proofs.Common.{append_assoc}
 use Rattle.std.proofs.Output.{has_written_of_eq}
-use Rattle.message_hints.proofs.problems.ProblemDisplay.fmt.Goals as goal
-
-pub returns-in-NoHyphens-clause-writes : goal.returns-in-NoHyphens-clause-writes
-returns-in-NoHyphens-clause-writes g c plain ok =
-    rw c.in-NoHyphens.is (has_written_of_eq _ _ _ _ _ (simp append_assoc) (c.write.ensures.writes plain ok))
-
-pub returns-in-OneHyphen-clause-writes : goal.returns-in-OneHyphen-clause-writes
-returns-in-OneHyphen-clause-writes g c plain ok =
-    rw c.in-OneHyphen.is (has_written_of_eq _ _ _ _ _ (simp append_assoc) (c.write-in-OneHyphen.ensures.writes plain ok))
-
-pub returns-in-Equals-clause-writes : goal.returns-in-Equals-clause-writes
-returns-in-Equals-clause-writes g c plain ok =
-    rw c.in-Equals.is (c.write-in-Equals.ensures.writes plain ok)
-
-pub returns-in-OfOthers-clause-writes : goal.returns-in-OfOthers-clause-writes
-returns-in-OfOthers-clause-writes g c plain ok =
-    rw c.in-OfOthers.is (has_written_of_eq _ _ _ _ _ (rw c.word_of-command.ensures (simp append_assoc)) (c.write-in-OfOthers.ensures.writes plain ok))
-
-pub returns-in-NoOption-clause-writes : goal.returns-in-NoOption-clause-writes
-returns-in-NoOption-clause-writes g c plain ok =
-    rw c.in-NoOption.is (has_written_of_eq _ _ _ _ _ (rw c.word_of-command.ensures (simp append_assoc)) (c.write-in-NoOption.ensures.writes plain ok))
+use Rattle.message_hints.proofs.problems.FlawedOptionDisplay.fmt.Goals as goal
 
 pub returns-in-Twice-clause-writes : goal.returns-in-Twice-clause-writes
 returns-in-Twice-clause-writes g c plain ok =
-    rw c.in-Twice.is (has_written_of_eq _ _ _ _ _ (simp append_assoc) (c.write-in-Twice.ensures.writes plain ok))
+    rw c.in-Twice.is (has_written_of_eq _ _ _ _ _ (simp append_assoc) (c.write.ensures.writes plain ok))
 
 pub returns-in-NoValue-clause-writes : goal.returns-in-NoValue-clause-writes
 returns-in-NoValue-clause-writes g c plain ok =
