@@ -26,9 +26,8 @@ use Rattle.message_hints.specs.Problems.{misuse_text}
 use Rattle.message_hints.specs.Refusals.{refused_text}
 use Rattle.job_messages.specs.Checks.{advice, meaning}
 use Rattle.job_messages.specs.Faults.{fault_words}
-use Rattle.job_messages.specs.Names.{file_text}
 use Rattle.job_messages.specs.Parts.{address_text, part_line}
-use Rattle.job_messages.specs.Words.{fault_file}
+use Rattle.job_messages.specs.Words.{fault_file, named_by}
 
 -- a refused statement, where it is shown
 abbrev pub shown_text : Option shown.Refused → List ℕ
@@ -54,9 +53,10 @@ lint_text UndefinedSymbol (Some source) = codes "ibm1620: bin/lint " ++ escaped_
 lint_text rule source = []
 
 -- a refused source: that line, what is shown of the statement, where to look further, and the rule
-unfoldable pub refusal_text : List ℕ → Option (List ℕ) → ℕ → Rule → CoreSize → Option shown.Refused → List ℕ
-refusal_text named source statement rule core refused =
-    refusal_line named statement rule core ++ shown_text refused ++ lint_text rule source ++ rule_text rule
+unfoldable pub refusal_text : Read → ℕ → Rule → Option shown.Refused → List ℕ
+refusal_text read statement rule refused =
+    refusal_line (named_by read Source) statement rule (core_of read) ++ shown_text refused
+    ++ lint_text rule (file_of read Source) ++ rule_text rule
 
 -- what may help where an address lies outside a core that is not the largest
 unfoldable pub larger_text : Stop → CoreSize → List ℕ
@@ -82,11 +82,11 @@ trace_text None (Some source) = codes "ibm1620: bin/trace " ++ escaped_text sour
 trace_text None None = []
 
 -- a limit of steps that was reached
-unfoldable pub limit_text : ℕ → Option (List ℕ) → Option (List ℕ) → List ℕ
-limit_text steps deck source =
+unfoldable pub limit_text : Read → ℕ → List ℕ
+limit_text read steps =
     codes "ibm1620: the limit of " ++ decimal steps
     ++ codes " steps was reached, and the program would run on\nibm1620: --limit N sets a greater one, if the program does not loop\n"
-    ++ trace_text deck source
+    ++ trace_text (file_of read Deck) (file_of read Source)
 
 -- where more cards may be put: behind those of the deck, where that is known, or into the file of data cards
 unfoldable pub put_cards_text : Option (List ℕ) → List ℕ → List ℕ
@@ -95,9 +95,10 @@ put_cards_text (Some deck) cards =
     codes "ibm1620: put more cards behind those of --deck " ++ escaped_text deck ++ codes ", or into " ++ cards ++ codes "\n"
 
 -- no card was left for the instruction at an address
-unfoldable pub need_cards_text : ℕ → Option (List ℕ) → List ℕ → List ℕ
-need_cards_text at deck cards =
-    codes "ibm1620: no card was left to be read, at " ++ address_text at ++ codes "\n" ++ put_cards_text deck cards
+unfoldable pub need_cards_text : Read → ℕ → List ℕ
+need_cards_text read at =
+    codes "ibm1620: no card was left to be read, at " ++ address_text at ++ codes "\n"
+    ++ put_cards_text (file_of read Deck) (named_by read Data)
 
 -- the instruction at an address for which no line of the keyboard was left, and where more lines may be put
 unfoldable pub no_line_text : ℕ → List ℕ
@@ -106,25 +107,42 @@ no_line_text at = codes "ibm1620: no line of the keyboard was left to be read, a
 unfoldable pub more_lines_text : List ℕ → List ℕ
 more_lines_text keys = codes "ibm1620: put more lines into " ++ keys ++ codes "\n"
 
-unfoldable pub need_keys_text : ℕ → List ℕ → List ℕ
-need_keys_text at keys = no_line_text at ++ more_lines_text keys
+unfoldable pub need_keys_text : Read → ℕ → List ℕ
+need_keys_text read at = no_line_text at ++ more_lines_text (named_by read Keys)
 
 -- a line of a file is too long to be read
-unfoldable pub jam_text : List ℕ → ℕ → List ℕ
-jam_text file line =
-    codes "ibm1620: " ++ file ++ codes ": line " ++ decimal line
+unfoldable pub jam_text : Read → unit.Unit → ℕ → List ℕ
+jam_text read u line =
+    codes "ibm1620: " ++ named_by read u ++ codes ": line " ++ decimal line
     ++ codes " is over 80 bytes\nibm1620: cut it: a card, or a line of the keyboard, has no more than 80\n"
 
--- a fault of the host, and the failure behind it where that is known
-abbrev pub host_fault_text : Option Trouble → Read → Option (List ℕ)
-host_fault_text None read = Some (codes "ibm1620: a file could not be opened, read or written\n")
-host_fault_text (Some t) read = fault_words t (fault_file read t.unit)
+-- a line of the operator's script, and one of the debugger's commands, that is none
+unfoldable pub bad_script_text : Read → ℕ → List ℕ
+bad_script_text read line =
+    codes "ibm1620: " ++ named_by read Script ++ codes ": line " ++ decimal line
+    ++ codes " is no line of a script\nibm1620: write it like AT 0 SWITCH 1 ON or HALT START; see docs/formats.md\n"
+
+unfoldable pub bad_command_text : Read → ℕ → List ℕ
+bad_command_text read line =
+    codes "ibm1620: " ++ named_by read Commands ++ codes ": line " ++ decimal line
+    ++ codes " is no command of the debugger\nibm1620: write it like BREAK 7, GO or SHOW 402 12; see docs/debugger.md\n"
 
 -- how many bytes a script, commands, or else a source, may have
 abbrev pub longest : unit.Unit → List ℕ
 longest Script = codes "1,000,000"
 longest Commands = codes "1,000,000"
 longest u = codes "4,000,000"
+
+-- a file that has more bytes
+unfoldable pub too_long_text : Read → unit.Unit → List ℕ
+too_long_text read u =
+    codes "ibm1620: " ++ named_by read u
+    ++ codes ": has too many bytes\nibm1620: shorten it: it may have " ++ longest u ++ codes " bytes\n"
+
+-- a fault of the host, and the failure behind it where that is known
+abbrev pub host_fault_text : Option Trouble → Read → Option (List ℕ)
+host_fault_text None read = Some (codes "ibm1620: a file could not be opened, read or written\n")
+host_fault_text (Some t) read = fault_words t (fault_file read t.unit)
 
 -- WHAT IS SAID of a status: nothing of a halt, of what was made, and of a session
 abbrev pub text_by : Status → Happened → Option (List ℕ)
@@ -133,26 +151,18 @@ text_by (Assembled statements digits cards) h = Some []
 text_by (Generated statements) h = Some []
 text_by (Placed sectors cards) h = Some []
 text_by SessionEnded h = Some []
-text_by (Refused statement rule) h =
-    Some (refusal_text (file_text Source (file_of h.read.now Source)) (file_of h.read.now Source) statement rule (core_of h.read.now) h.refused)
+text_by (Refused statement rule) h = Some (refusal_text h.read.now statement rule h.refused)
 text_by Usage h = Some (misuse_text h.misuse)
 text_by (CheckStop kind at steps) h = Some (check_text kind at h.part (core_of h.read.now))
-text_by (Limit steps) h = Some (limit_text steps (file_of h.read.now Deck) (file_of h.read.now Source))
-text_by (NeedCards at steps) h =
-    Some (need_cards_text at (file_of h.read.now Deck) (file_text Data (file_of h.read.now Data)))
-text_by (NeedKeys at steps) h = Some (need_keys_text at (file_text Keys (file_of h.read.now Keys)))
+text_by (Limit steps) h = Some (limit_text h.read.now steps)
+text_by (NeedCards at steps) h = Some (need_cards_text h.read.now at)
+text_by (NeedKeys at steps) h = Some (need_keys_text h.read.now at)
 text_by HostFault h = host_fault_text (option_copied h.trouble) h.read.now
 text_by OutOfMemory h = Some (codes "ibm1620: there was not enough memory: free some and try again\n")
-text_by (Jam u line) h = Some (jam_text (file_text u (file_of h.read.now u)) line)
-text_by (BadScript line) h =
-    Some (codes "ibm1620: " ++ file_text Script (file_of h.read.now Script) ++ codes ": line " ++ decimal line
-    ++ codes " is no line of a script\nibm1620: write it like AT 0 SWITCH 1 ON or HALT START; see docs/formats.md\n")
-text_by (TooLong u) h =
-    Some (codes "ibm1620: " ++ file_text u (file_of h.read.now u)
-    ++ codes ": has too many bytes\nibm1620: shorten it: it may have " ++ longest u ++ codes " bytes\n")
-text_by (BadCommand line) h =
-    Some (codes "ibm1620: " ++ file_text Commands (file_of h.read.now Commands) ++ codes ": line " ++ decimal line
-    ++ codes " is no command of the debugger\nibm1620: write it like BREAK 7, GO or SHOW 402 12; see docs/debugger.md\n")
+text_by (Jam u line) h = Some (jam_text h.read.now u line)
+text_by (BadScript line) h = Some (bad_script_text h.read.now line)
+text_by (TooLong u) h = Some (too_long_text h.read.now u)
+text_by (BadCommand line) h = Some (bad_command_text h.read.now line)
 
 abbrev pub happened_text : Happened → Option (List ℕ)
 happened_text h = text_by h.status h

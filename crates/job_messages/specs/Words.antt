@@ -16,6 +16,9 @@ fault_file_in (Err e) u = Some (codes "FILE")
 abbrev pub fault_file : Read → unit.Unit → Option (List ℕ)
 fault_file read u = fault_file_in read.said u
 
--- a unit with its file
+-- a unit with its file, as the words name it
+abbrev pub named_by : Read → unit.Unit → List ℕ
+named_by read u = file_text u (file_of read u)
+
 abbrev pub file_text_of : FileOf → List ℕ
-file_text_of w = file_text w.unit (file_of w.read.now w.unit)
+file_text_of w = named_by w.read.now w.unit

@@ -1,7 +1,7 @@
 // What a job says of its end, by its status.
 ghost use Rattle.std.specs.Prelude.{◌≡◌, Some, option_copied};
 ghost use Rattle.job_messages.specs.Words.{file_text_of};
-ghost use Rattle.job_messages.specs.Statuses.{check_line, check_text, happened_text, host_fault_text, jam_text, larger_text, limit_text, lint_text, longest, more_lines_text, need_cards_text, need_keys_text, no_line_text, put_cards_text, refusal_line, refusal_text, rule_text, shown_text, trace_text};
+ghost use Rattle.job_messages.specs.Statuses.{bad_command_text, bad_script_text, check_line, check_text, happened_text, host_fault_text, jam_text, larger_text, limit_text, lint_text, longest, more_lines_text, need_cards_text, need_keys_text, no_line_text, put_cards_text, refusal_line, refusal_text, rule_text, shown_text, too_long_text, trace_text};
 
 use crate::checks::{Advice, Meaning, number_of};
 use crate::faults::Fault;
@@ -48,14 +48,9 @@ impl fmt::Display for Happened<'_> {
             | Status::Placed { .. }
             | Status::SessionEnded => Ok(()),
             Status::Refused { statement, rule } => f.write(Refusal {
-                source: FileOf {
-                    read,
-                    unit: Unit::Source,
-                },
-                file: read.file(Unit::Source),
+                read,
                 statement,
                 rule,
-                core: read.core(),
                 shown: self.refused,
             }),
             Status::Usage => f.write(self.misuse),
@@ -65,106 +60,50 @@ impl fmt::Display for Happened<'_> {
                 part: self.part,
                 core: read.core(),
             }),
-            Status::Limit { steps } => f.write(Limit {
-                steps,
-                deck: read.file(Unit::Deck),
-                source: read.file(Unit::Source),
-            }),
-            Status::NeedCards { at, .. } => f.write(NeedCards {
-                at,
-                deck: read.file(Unit::Deck),
-                cards: FileOf {
-                    read,
-                    unit: Unit::Data,
-                },
-            }),
-            Status::NeedKeys { at, .. } => f.write(NeedKeys {
-                at,
-                keys: FileOf {
-                    read,
-                    unit: Unit::Keys,
-                },
-            }),
+            Status::Limit { steps } => f.write(Limit { read, steps }),
+            Status::NeedCards { at, .. } => f.write(NeedCards { read, at }),
+            Status::NeedKeys { at, .. } => f.write(NeedKeys { read, at }),
             Status::HostFault => f.write(HostFault {
                 trouble: self.trouble,
-                read: self.read,
+                read,
             }),
             Status::OutOfMemory => f.write_str(NO_MEMORY),
-            Status::Jam { unit, line } => f.write(Jam {
-                named: FileOf { read, unit },
-                line,
-            }),
-            Status::BadScript { line } => {
-                let script = FileOf {
-                    read,
-                    unit: Unit::Script,
-                };
-                write!(
-                    f,
-                    "ibm1620: {script}: line {line} is no line of a script\n\
-                     ibm1620: write it like AT 0 SWITCH 1 ON or HALT START; see docs/formats.md\n"
-                )
-            }
-            Status::TooLong { unit } => {
-                let named = FileOf { read, unit };
-                let most = longest(unit);
-                write!(
-                    f,
-                    "ibm1620: {named}: has too many bytes\n\
-                     ibm1620: shorten it: it may have {most} bytes\n"
-                )
-            }
-            Status::BadCommand { line } => {
-                let commands = FileOf {
-                    read,
-                    unit: Unit::Commands,
-                };
-                write!(
-                    f,
-                    "ibm1620: {commands}: line {line} is no command of the debugger\n\
-                     ibm1620: write it like BREAK 7, GO or SHOW 402 12; see docs/debugger.md\n"
-                )
-            }
+            Status::Jam { unit, line } => f.write(Jam { read, unit, line }),
+            Status::BadScript { line } => f.write(BadScript { read, line }),
+            Status::TooLong { unit } => f.write(TooLong { read, unit }),
+            Status::BadCommand { line } => f.write(BadCommand { read, line }),
         }
-    }
-}
-
-// How many bytes a script, commands, or else a source, may have.
-fn longest(unit: Unit) -> &'static str
-    ensures { result.now ≡ longest unit }
-{
-    match unit {
-        Unit::Script | Unit::Commands => "1,000,000",
-        _ => "4,000,000",
     }
 }
 
 // A refused source.
 #[derive(Clone, Copy)]
 struct Refusal<'a> {
-    source: FileOf<'a>,
-    file: Option<&'a str>,
+    read: &'a Read<'a>,
     statement: u32,
     rule: Rule,
-    core: CoreSize,
     shown: Option<Refused<'a>>,
 }
 
 impl fmt::Display for Refusal<'_> {
-    ghost output = { λ r. Some (refusal_text (file_text_of r.source) (option_copied r.file) r.statement r.rule r.core r.shown) };
+    ghost output = { λ r. Some (refusal_text r.read.now r.statement r.rule r.shown) };
 
     #[tactic(auto, unfolding(crate::specs::Statuses::refusal_text))]
     fn fmt<W: fmt::Write>(&self, f: &mut fmt::Formatter<W>) -> fmt::Result {
+        let read = self.read;
         let line = RefusalLine {
-            source: self.source,
+            source: FileOf {
+                read,
+                unit: Unit::Source,
+            },
             statement: self.statement,
             rule: self.rule,
-            core: self.core,
+            core: read.core(),
         };
         let shown = Shown(self.shown);
         let lint = Lint {
             rule: self.rule,
-            file: self.file,
+            file: read.file(Unit::Source),
         };
         let law = Law(self.rule);
         write!(f, "{line}{shown}{lint}{law}")
@@ -330,20 +269,19 @@ impl fmt::Display for Larger {
 // A limit that was reached.
 #[derive(Clone, Copy)]
 struct Limit<'a> {
+    read: &'a Read<'a>,
     steps: u64,
-    deck: Option<&'a str>,
-    source: Option<&'a str>,
 }
 
 impl fmt::Display for Limit<'_> {
-    ghost output = { λ l. Some (limit_text l.steps (option_copied l.deck) (option_copied l.source)) };
+    ghost output = { λ l. Some (limit_text l.read.now l.steps) };
 
     #[tactic(auto, unfolding(crate::specs::Statuses::limit_text))]
     fn fmt<W: fmt::Write>(&self, f: &mut fmt::Formatter<W>) -> fmt::Result {
         let steps = self.steps;
         let trace = Trace {
-            deck: self.deck,
-            source: self.source,
+            deck: self.read.file(Unit::Deck),
+            source: self.read.file(Unit::Source),
         };
         write!(
             f,
@@ -388,20 +326,23 @@ impl fmt::Display for Trace<'_> {
 // No card was left.
 #[derive(Clone, Copy)]
 struct NeedCards<'a> {
+    read: &'a Read<'a>,
     at: u32,
-    deck: Option<&'a str>,
-    cards: FileOf<'a>,
 }
 
 impl fmt::Display for NeedCards<'_> {
-    ghost output = { λ n. Some (need_cards_text n.at (option_copied n.deck) (file_text_of n.cards)) };
+    ghost output = { λ n. Some (need_cards_text n.read.now n.at) };
 
     #[tactic(auto, unfolding(crate::specs::Statuses::need_cards_text))]
     fn fmt<W: fmt::Write>(&self, f: &mut fmt::Formatter<W>) -> fmt::Result {
         let at = Address(self.at);
+        let read = self.read;
         let put = PutCards {
-            deck: self.deck,
-            cards: self.cards,
+            deck: read.file(Unit::Deck),
+            cards: FileOf {
+                read,
+                unit: Unit::Data,
+            },
         };
         write!(f, "ibm1620: no card was left to be read, at {at}\n{put}")
     }
@@ -439,17 +380,20 @@ impl fmt::Display for PutCards<'_> {
 // No line of the keyboard was left.
 #[derive(Clone, Copy)]
 struct NeedKeys<'a> {
+    read: &'a Read<'a>,
     at: u32,
-    keys: FileOf<'a>,
 }
 
 impl fmt::Display for NeedKeys<'_> {
-    ghost output = { λ n. Some (need_keys_text n.at (file_text_of n.keys)) };
+    ghost output = { λ n. Some (need_keys_text n.read.now n.at) };
 
     #[tactic(auto, unfolding(crate::specs::Statuses::need_keys_text))]
     fn fmt<W: fmt::Write>(&self, f: &mut fmt::Formatter<W>) -> fmt::Result {
         let none = NoLine(self.at);
-        let more = MoreLines(self.keys);
+        let more = MoreLines(FileOf {
+            read: self.read,
+            unit: Unit::Keys,
+        });
         write!(f, "{none}{more}")
     }
 }
@@ -488,21 +432,110 @@ impl fmt::Display for MoreLines<'_> {
 // A line that is too long.
 #[derive(Clone, Copy)]
 struct Jam<'a> {
-    named: FileOf<'a>,
+    read: &'a Read<'a>,
+    unit: Unit,
     line: u64,
 }
 
 impl fmt::Display for Jam<'_> {
-    ghost output = { λ j. Some (jam_text (file_text_of j.named) j.line) };
+    ghost output = { λ j. Some (jam_text j.read.now j.unit j.line) };
 
     #[tactic(auto, unfolding(crate::specs::Statuses::jam_text))]
     fn fmt<W: fmt::Write>(&self, f: &mut fmt::Formatter<W>) -> fmt::Result {
-        let named = self.named;
+        let named = FileOf {
+            read: self.read,
+            unit: self.unit,
+        };
         let line = self.line;
         write!(
             f,
             "ibm1620: {named}: line {line} is over 80 bytes\n\
              ibm1620: cut it: a card, or a line of the keyboard, has no more than 80\n"
+        )
+    }
+}
+
+// A line of a script that is none.
+#[derive(Clone, Copy)]
+struct BadScript<'a> {
+    read: &'a Read<'a>,
+    line: u64,
+}
+
+impl fmt::Display for BadScript<'_> {
+    ghost output = { λ b. Some (bad_script_text b.read.now b.line) };
+
+    #[tactic(auto, unfolding(crate::specs::Statuses::bad_script_text))]
+    fn fmt<W: fmt::Write>(&self, f: &mut fmt::Formatter<W>) -> fmt::Result {
+        let script = FileOf {
+            read: self.read,
+            unit: Unit::Script,
+        };
+        let line = self.line;
+        write!(
+            f,
+            "ibm1620: {script}: line {line} is no line of a script\n\
+             ibm1620: write it like AT 0 SWITCH 1 ON or HALT START; see docs/formats.md\n"
+        )
+    }
+}
+
+// An input that has too many bytes.
+#[derive(Clone, Copy)]
+struct TooLong<'a> {
+    read: &'a Read<'a>,
+    unit: Unit,
+}
+
+impl fmt::Display for TooLong<'_> {
+    ghost output = { λ t. Some (too_long_text t.read.now t.unit) };
+
+    #[tactic(auto, unfolding(crate::specs::Statuses::too_long_text))]
+    fn fmt<W: fmt::Write>(&self, f: &mut fmt::Formatter<W>) -> fmt::Result {
+        let named = FileOf {
+            read: self.read,
+            unit: self.unit,
+        };
+        let most = longest(self.unit);
+        write!(
+            f,
+            "ibm1620: {named}: has too many bytes\n\
+             ibm1620: shorten it: it may have {most} bytes\n"
+        )
+    }
+}
+
+// How many bytes a script, commands, or else a source, may have.
+fn longest(unit: Unit) -> &'static str
+    ensures { result.now ≡ longest unit }
+{
+    match unit {
+        Unit::Script | Unit::Commands => "1,000,000",
+        _ => "4,000,000",
+    }
+}
+
+// A line of the debugger's commands that is none.
+#[derive(Clone, Copy)]
+struct BadCommand<'a> {
+    read: &'a Read<'a>,
+    line: u64,
+}
+
+impl fmt::Display for BadCommand<'_> {
+    ghost output = { λ b. Some (bad_command_text b.read.now b.line) };
+
+    #[tactic(auto, unfolding(crate::specs::Statuses::bad_command_text))]
+    fn fmt<W: fmt::Write>(&self, f: &mut fmt::Formatter<W>) -> fmt::Result {
+        let commands = FileOf {
+            read: self.read,
+            unit: Unit::Commands,
+        };
+        let line = self.line;
+        write!(
+            f,
+            "ibm1620: {commands}: line {line} is no command of the debugger\n\
+             ibm1620: write it like BREAK 7, GO or SHOW 402 12; see docs/debugger.md\n"
         )
     }
 }
