@@ -4,7 +4,7 @@ use Rattle.std.specs.Option.{is_some}
 use Rattle.std.specs.Fmt.{option_append}
 use Rattle.outside_io.specs.declared.host.Unit as unit
 use Rattle.outside_io.specs.declared.host.Unit.TheVariants.{Pack}
-use Rattle.outside_io.specs.World.{is_input, is_pack}
+use Rattle.outside_io.specs.World.{is_input}
 use Rattle.outside_io.specs.declared.trouble.Doing.{Doing}
 use Rattle.outside_io.specs.declared.trouble.Doing.TheVariants.{Open, Empty, Read, Write, ReadSector, WriteSector}
 use Rattle.outside_io.specs.declared.trouble.Cause.{Cause}

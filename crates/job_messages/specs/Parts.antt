@@ -1,5 +1,5 @@
 -- Which part of an instruction a check is about.
-use Rattle.std.specs.Prelude.{ℕ, ◌+◌, ◌-◌, ◌^◌, min, ◌==◌, List, [], ◌∷◌, ◌++◌, codes, if◌then◌else◌, Option, None, Some}
+use Rattle.std.specs.Prelude.{ℕ, ◌+◌, ◌-◌, ◌^◌, min, ◌==◌, List, [], ◌++◌, codes, if◌then◌else◌, Option, None, Some}
 use Rattle.addr_indirect.specs.declared.Stop.{Stop}
 use Rattle.addr_indirect.specs.declared.Stop.TheVariants.{Digit}
 use Rattle.cpu_step.specs.declared.checks.CheckPart.{CheckPart}
