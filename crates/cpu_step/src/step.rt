@@ -78,7 +78,7 @@ impl<const M: u32> Machine<M> {
             Row::Nop => self.settle(Outcome::Goes { regs }),
             Row::H => self.settle(Outcome::Halts { regs }),
             Row::InOut(row) => self.in_out_step(row, o.p, regs, host),
-            Row::Branch { op, code } => self.branch_step(op, o.tested(code)),
+            Row::Branch { op, code } => self.unkept_branch_step(op, o.tested(code)),
         }
     }
 
@@ -104,6 +104,17 @@ impl<const M: u32> Machine<M> {
     {
         let outcome = self.branch_by(op, o);
         self.settle(outcome)
+    }
+
+    // The same of a branch that is not kept as one. It is no part of `step`, which would be too large then to be made a part of a run's loop.
+    #[inline(never)]
+    fn unkept_branch_step(&mut self, op: BranchOp, o: BranchOperands) -> Turned
+        requires p { o.p < size M }
+        requires q { o.q < size M }
+        requires next { self.old.regs.ir + 12 ≤ size M }
+        ensures { BranchSettles M op o self.old self.new result }
+    {
+        self.branch_step(op, o)
     }
 
     // The same where an operand is a chain, or it isn't known what the instruction comes to.

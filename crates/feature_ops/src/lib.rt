@@ -32,7 +32,7 @@ pub const NEGATIVE_ZONE: u8 = 5;
 ///
 /// `p` and `q` are below the size of core; of a strip and a fill `p` is odd. What changes, and the stops, are those of the operation's own
 /// call.
-#[inline(always)]
+#[inline(never)]
 pub fn do_feature<const M: u32>(
     core: &mut Core<M>,
     op: FeatureOp,

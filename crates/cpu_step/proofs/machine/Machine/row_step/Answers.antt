@@ -47,10 +47,10 @@ returns-in-InOut g c = λ old running acts. c.in_out_step.ensures old running (�
 pub returns-in-Branch : goal.returns-in-Branch
 unfolding action
 returns-in-Branch g c = λ old running acts.
-    (rw c.tested.ensures at c.branch_step.ensures) (g.H.Host.seen c.args.host.now) old running (λ mid outcome acted. acts mid outcome (rw c.in-Branch.is (acted (g.H.Host.seen c.args.host.now))))
+    (rw c.tested.ensures at c.unkept_branch_step.ensures) (g.H.Host.seen c.args.host.now) old running (λ mid outcome acted. acts mid outcome (rw c.in-Branch.is (acted (g.H.Host.seen c.args.host.now))))
 
-pub branch_step-requires : goal.branch_step-requires
-branch_step-requires g c = rw c.tested.ensures (omega arith, (c.requires.p, (c.requires.q, c.requires.ir)))
+pub unkept_branch_step-requires : goal.unkept_branch_step-requires
+unkept_branch_step-requires g c = rw c.tested.ensures (omega arith, (c.requires.p, (c.requires.q, c.requires.ir)))
 
 pub returns-in-Nop : goal.returns-in-Nop
 unfolding action
