@@ -1,5 +1,5 @@
 -- The text of the image, and the line of a refusal.
-use Rattle.std.specs.Prelude.{ℕ, zero, suc, ◌+◌, ◌/◌, if◌then◌else◌, Option, Some, None, List, [], ◌∷◌, ◌++◌, length, take, drop, map, codes, slice_index_or}
+use Rattle.std.specs.Prelude.{ℕ, zero, suc, ◌+◌, ◌/◌, Bool, ◌&&◌, ◌||◌, ◌==◌, nat_le, if◌then◌else◌, Option, Some, None, List, [], ◌∷◌, ◌++◌, length, take, drop, map, codes, slice_index_or}
 use Rattle.outside_io.specs.Lines.{texts_of}
 use Rattle.card_code.specs.Characters.{object_char}
 use Rattle.digit_core.specs.declared.Digit.{Digit}
@@ -48,17 +48,21 @@ abbrev pub source_line_at : List ℕ → ℕ → List ℕ
 source_line_at source zero = []
 source_line_at source (suc n) = slice_index_or (texts_of source) n []
 
+-- the rules whose refusal shows an operand part: 7 to 13, and 20
+abbrev pub shows_part : Rule → Bool
+shows_part rule = (nat_le 7 (rule_number rule) && nat_le (rule_number rule) 13) || (rule_number rule == 20)
+
 -- the part at a place without the blanks at its ends, where a place is given
 abbrev pub part_text : StatementText → Option ℕ → List ℕ
 part_text s None = []
 part_text s (Some place) = without_outer_blanks (part_at s place)
 
--- what a refusal shows of its statement: the label, the operation, or the part that it tells of, without the blanks at its ends
+-- what a refusal shows of its statement: the label, the operation or a part, without the blanks at its ends
 abbrev pub shown_text : Rule → Option ℕ → StatementText → List ℕ
 shown_text BadLabel part s = without_outer_blanks s.label
 shown_text DuplicateLabel part s = without_outer_blanks s.label
 shown_text UnknownOperation part s = without_outer_blanks s.operation
-shown_text rule part s = part_text s part
+shown_text rule part s = if shows_part rule then part_text s part else []
 
 -- a text behind a blank, where it has a byte
 abbrev pub behind_blank : List ℕ → List ℕ

@@ -56,9 +56,9 @@ fn refusal_front(statement: u32, rule: Rule, shown: &[u8]) -> ArrayString<LONGES
 /// name, and behind a blank what is wrong in the statement.
 ///
 /// `source` is the source deck of the statement, `statement` its number, the first being 1, `rule` the rule that it breaks, and `part`
-/// the place, from 0, of the operand part that breaks it. Shown are the label for the rules 3 and 5, the operation for 4, and for
-/// other rules that part, without the blanks at both ends. Where this is empty, without a part, for a part of 10 or more, and for a
-/// statement that the source does not have, the line ends behind the rule's name.
+/// the place, from 0, of the operand part that breaks it. Shown are the label for the rules 3 and 5, the operation for 4, and the part
+/// for 7 to 13 and 20, without the blanks at both ends. Where this is empty, for other rules, without a part, for a part of 10 or more,
+/// and for a statement that the source does not have, the line ends behind the rule's name.
 ///
 /// The statement is scanned once more, and no memory is taken.
 /// `Failed` only where the host's count of faults rose: Report has been given a first part of the line, which may be empty or all.

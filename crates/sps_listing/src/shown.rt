@@ -1,7 +1,7 @@
 // What a refusal shows of its statement.
 ghost use Rattle.std.specs.Prelude.{◌≡◌};
 ghost use Rattle.sps_scan.specs.Statement.{statement_text};
-ghost use Rattle.sps_listing.specs.Texts.{source_line_at, part_text, shown_text};
+ghost use Rattle.sps_listing.specs.Texts.{source_line_at, shows_part, part_text, shown_text};
 
 use line_words::trimmed;
 use outside_io::split_line;
@@ -29,6 +29,13 @@ pub(crate) fn line_at(source: &[u8], statement: u32) -> &[u8]
     }
 }
 
+// The rules whose refusal shows an operand part.
+fn shows_part(rule: Rule) -> bool
+    ensures { result ≡ shows_part rule }
+{
+    matches!(rule.number(), 7..=13 | 20)
+}
+
 // The part at a place without the blanks at its ends, where a place is given.
 fn part_text<'a>(s: &Statement<'a>, part: Option<u8>) -> &'a [u8]
     ensures { result.now ≡ part_text (statement_text s.now) part }
@@ -39,13 +46,14 @@ fn part_text<'a>(s: &Statement<'a>, part: Option<u8>) -> &'a [u8]
     }
 }
 
-// What a refusal shows of its statement: the label, the operation, or the part that it tells of, without the blanks at its ends.
+// What a refusal shows of its statement: the label, the operation or a part, without the blanks at its ends.
 pub(crate) fn shown_text<'a>(rule: Rule, part: Option<u8>, s: &Statement<'a>) -> &'a [u8]
     ensures { result.now ≡ shown_text rule part (statement_text s.now) }
 {
     match rule {
         Rule::BadLabel | Rule::DuplicateLabel => trimmed(s.label),
         Rule::UnknownOperation => trimmed(s.operation),
-        _ => part_text(s, part),
+        _ if shows_part(rule) => part_text(s, part),
+        _ => &[],
     }
 }
