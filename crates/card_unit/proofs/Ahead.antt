@@ -1,14 +1,14 @@
 -- That a hopper stays one ahead.
 use Rattle.std.proofs.Common.{◌≡◌, List, refl, sym, ◌∙◌, ap, subst, inl, inr}
 use Rattle.std.proofs.lemmas.Option.{IfSome_then}
-use Rattle.std.specs.Prelude.{Option, Some, None, option_map, IfSome}
+use Rattle.std.specs.Prelude.{Option, Some, None, IfSome}
 use Rattle.outside_io.specs.declared.host.Unit as unit
 use Rattle.outside_io.specs.declared.host.Unit.TheVariants as units
 use Rattle.outside_io.specs.World.{World, Asked, Seen, same_unit}
 use Rattle.card_code.specs.declared.lines.Lines.{Lines}
 use Rattle.card_code.specs.declared.lines.More.{More}
 use Rattle.card_code.specs.declared.lines.More.TheVariants as more
-use Rattle.card_code.specs.Entries.{Entry, behind}
+use Rattle.card_code.specs.Entries.{Entry}
 use Rattle.card_code.specs.Reader as lines
 use Rattle.card_code.specs.Reader.{unit_of, bytes_held, AsksInTurn, AsksOneAhead, Fronts, HasNone}
 use Rattle.card_code.proofs.InTurn.{is_ahead}
@@ -82,43 +82,7 @@ turn_ahead h w pile turn = record {
   later = always (pile_left h.pile w) (IsDataLater h.front h.data w) (λ es. inl turn);
 }
 
--- data that are asked later are in turn, where an entry was at the front of the pile
-later_behind : (told : Option (List Entry)) (e : Entry) (front front_new : Option Front) (reader : Lines) (w : World) → Fronts e told → IfSome told (IsDataLater front reader w) → IfSome (option_map behind told) (IsDataLater front_new reader w)
-later_behind None e front front_new reader w fronts later = tt
-later_behind (Some es) e front front_new reader w fronts (inl turn) = inl turn
-later_behind (Some es) e front front_new reader w fronts (inr none) = cc
-
--- The pile was asked for its next card.
-module _ (old new : Hopper) (before after : Seen) (none : old.front ≡ None) (rest : new.data ≡ old.data) (looks : LooksAt (same_unit units.Deck) before after) (turn : IsPileAhead old.pile before.world → IsPileInTurn new.pile after.world) where
-  pile_now : IsOneAhead old before.world → IsPileReady new.front new.pile after.world
-  pile_now ahead = any_ready new.front new.pile after.world (turn (subst (λ (front : Option Front). IsPileReady front old.pile before.world) none ahead.pile))
-
-  reader_now : IsOneAhead old before.world → lines.IsOneAhead new.data after.world
-  reader_now ahead = subst (λ (reader : Lines). lines.IsOneAhead reader after.world) (sym rest) (reader_ahead units.Data before.world after.world (looks.keeps.asked units.Data refl) old.data old.data_is ahead.reader)
-
-  later_now : IsOneAhead old before.world → IfSome (pile_left old.pile before.world) (IsDataLater old.front new.data after.world)
-  later_now ahead = subst (λ (reader : Lines). IfSome (pile_left old.pile before.world) (IsDataLater old.front reader after.world)) (sym rest)
-      (IfSome_then (pile_left old.pile before.world) ahead.later (λ es. data_later units.Data before.world after.world (looks.keeps.asked units.Data refl) old.front old.data es old.data_is))
-
-  -- it comes to the front
-  pub next_ahead : (e : Entry) → pile_left new.pile after.world ≡ option_map behind (pile_left old.pile before.world) → Fronts e (pile_left old.pile before.world) → KeepsAhead old new before after
-  next_ahead e left fronts ahead = record {
-    pile = pile_now ahead;
-    reader = reader_now ahead;
-    later = subst (λ (told : Option (List Entry)). IfSome told (IsDataLater new.front new.data after.world)) (sym left)
-        (later_behind (pile_left old.pile before.world) e old.front new.front new.data after.world fronts (later_now ahead));
-  }
-
-  -- none comes
-  pub none_ahead : new.front ≡ old.front → pile_left new.pile after.world ≡ pile_left old.pile before.world → KeepsAhead old new before after
-  none_ahead front left ahead = record {
-    pile = pile_now ahead;
-    reader = reader_now ahead;
-    later = subst (λ (told : Option (List Entry)). IfSome told (IsDataLater new.front new.data after.world)) (sym left)
-        (subst (λ (front : Option Front). IfSome (pile_left old.pile before.world) (IsDataLater front new.data after.world)) (sym front) (later_now ahead));
-  }
-
--- It has ended, and the data were asked for their next line.
+-- The pile was asked for its next card and has ended, and the data were asked for their next line.
 pub data_ahead : (old new : Hopper) (mid : Pile) (before between after : Seen) → old.front ≡ None → new.pile ≡ mid → LooksAt (same_unit units.Deck) before between → (IsPileAhead old.pile before.world → IsPileInTurn mid between.world)
     → LooksAt (same_unit units.Data) between after → (lines.IsOneAhead old.data between.world → lines.IsInTurn new.data after.world) → KeepsAhead old new before after
 data_ahead old new mid before between after none same looks turn looks_rest turn_rest ahead =

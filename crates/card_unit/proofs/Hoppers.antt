@@ -13,12 +13,14 @@ use Rattle.card_code.specs.declared.lines.More.TheVariants as more
 use Rattle.card_code.specs.Entries.{Entry, Text, Long, entries_of_unit, behind, text_as_card, next_card}
 use Rattle.card_code.specs.Reader.{unit_of, lines_handed_out, bytes_held, entries_left, Moves, Fronts, HasNone, HasSome, MoreEntries}
 use Rattle.card_unit.specs.declared.front.Front.{Front}
-use Rattle.card_unit.specs.Front.{front_text}
+use Rattle.card_unit.specs.declared.front.Held.{Held}
+use Rattle.card_unit.specs.declared.front.Held.TheVariants as held
+use Rattle.card_unit.specs.Front.{front_text, HoldsNext}
 use Rattle.card_unit.specs.declared.pile.Pile.{Pile}
 use Rattle.card_unit.specs.declared.pile.Pile.TheVariants as pile
 use Rattle.card_unit.specs.declared.hopper.Hopper.{Hopper}
 use Rattle.card_unit.specs.Pile.{pile_left, pile_unit, no_unit, is_card_unit, LooksAt}
-use Rattle.card_unit.specs.Hopper.{entries_in_order, front_left, hopper_left, hopper_feed, Looks, HoldsFront, SaysBehind, HasBehind, TellsAtLeast, DataStays}
+use Rattle.card_unit.specs.Hopper.{entries_in_order, front_left, hopper_left, hopper_feed, Looks, Holds, SaysBehind, HasBehind, TellsAtLeast, DataStays}
 use Rattle.card_code.specs.Feed.{Stays, Gives, Lacks}
 use Rattle.card_unit.proofs.Joined.{given_none, none_after, some_after, jam_pile, jam_data, given_long, given_card, behind_front}
 
@@ -85,19 +87,34 @@ same_joined front front_new pile pile_new rest rest_new a b c =
 -- The pile was asked.
 module _ (old new : Hopper) (before after : Seen) (front : new.front ≡ old.front) (rest : new.data ≡ old.data) (looks : LooksAt (same_unit units.Deck) before after) (left : pile_left new.pile after.world ≡ pile_left old.pile before.world) where
   -- nothing of the meaning changed
-  pub pile_stays : Stays hopper_feed old new before after
+  pile_stays : Stays hopper_feed old new before after
   pile_stays = record {
     looks = looks_pile before after looks;
     left = same_joined _ _ _ _ _ _ (ap front_left front) left (ap (λ (lines : Lines). entries_left lines after.world) rest ∙ rest_apart old before after looks);
   }
 
   -- its front line is too long
-  pub pile_jams : (n : ℕ) → old.front ≡ None → Fronts (Long units.Deck n) (pile_left old.pile before.world) → Lacks hopper_feed old new before after (Jam units.Deck n)
-  pile_jams n none long = record {
+  pile_jams : (u : unit.Unit) (n : ℕ) → old.front ≡ None → Fronts (Long u n) (pile_left old.pile before.world) → Lacks hopper_feed old new before after (Jam u n)
+  pile_jams u n none long = record {
     stays = pile_stays;
-    given = given_long units.Deck n (hopper_left old before.world)
-        (subst (λ (es : List Entry). Fronts (Long units.Deck n) (entries_in_order es (pile_left old.pile before.world) (entries_left old.data before.world))) (sym (ap front_left none)) (jam_pile units.Deck n _ (entries_left old.data before.world) long));
+    given = given_long u n (hopper_left old before.world)
+        (subst (λ (es : List Entry). Fronts (Long u n) (entries_in_order es (pile_left old.pile before.world) (entries_left old.data before.world))) (sym (ap front_left none)) (jam_pile u n _ (entries_left old.data before.world) long));
   }
+
+-- where nothing came to the front, the front and the entries are as they were
+pub none_held : (front new_front : Option Front) (old new : Option (List Entry)) (before after : Seen) (got : Held) → (got ≡ held.AtFront → ⊥) → HoldsNext front new_front old new before after got → (new_front ≡ front) × (new ≡ old)
+none_held front new_front old new before after held.AtFront other holds = absurd (other refl)
+none_held front new_front old new before after held.Empty other holds = (holds.0, holds.1)
+none_held front new_front old new before after (held.Jam u n) other holds = (holds.0, holds.1)
+none_held front new_front old new before after held.Failed other holds = (holds.0, holds.1)
+
+-- the pile answers for the hopper where it jams, or where the host failed
+pub pile_lacks : (old new : Hopper) (before after : Seen) → old.front ≡ None → new.data ≡ old.data → LooksAt (same_unit units.Deck) before after → (got : Held) → (got ≡ held.AtFront → ⊥) → (got ≡ held.Empty → ⊥)
+    → HoldsNext old.front new.front (pile_left old.pile before.world) (pile_left new.pile after.world) before after got → Holds old new before after got
+pile_lacks old new before after none rest looks held.AtFront other some holds = absurd (other refl)
+pile_lacks old new before after none rest looks held.Empty other some holds = absurd (some refl)
+pile_lacks old new before after none rest looks (held.Jam u n) other some holds = pile_jams old new before after holds.0 rest looks holds.1 u n none holds.2
+pile_lacks old new before after none rest looks held.Failed other some holds = record { stays = pile_stays old new before after holds.0 rest looks holds.1; rose = holds.2 }
 
 -- a look ahead leaves the entries
 pub more_same : (old new : Option (List Entry)) (before after : Seen) (got : More) → MoreEntries old new before after got → new ≡ old
@@ -116,18 +133,16 @@ module _ (old new : Hopper) (mid : Pile) (before between after : Seen) (looks : 
   }
 
   -- the data's front line is too long
-  pub rest_jams : (n : ℕ) → old.front ≡ None → HasNone (pile_left old.pile before.world) → Fronts (Long (unit_of old.data) n) (entries_left old.data between.world) → Lacks hopper_feed old new before after (Jam units.Data n)
-  rest_jams n none over long =
-      let long_rest : Fronts (Long units.Data n) (entries_left old.data before.world) =
-      subst (λ (u : unit.Unit). Fronts (Long u n) (entries_left old.data before.world)) old.data_is (subst (λ (told : Option (List Entry)). Fronts (Long (unit_of old.data) n) told) (rest_apart old before between looks) long) in
-      record {
-        stays = rest_stays;
-        given = given_long units.Data n (hopper_left old before.world)
-            (subst (λ (es : List Entry). Fronts (Long units.Data n) (entries_in_order es (pile_left old.pile before.world) (entries_left old.data before.world))) (sym (ap front_left none)) (jam_data units.Data n _ _ over long_rest));
-      }
+  rest_jams : (u : unit.Unit) (n : ℕ) → old.front ≡ None → HasNone (pile_left old.pile before.world) → Fronts (Long u n) (entries_left old.data between.world) → Lacks hopper_feed old new before after (Jam u n)
+  rest_jams u n none over long = record {
+    stays = rest_stays;
+    given = given_long u n (hopper_left old before.world)
+        (subst (λ (es : List Entry). Fronts (Long u n) (entries_in_order es (pile_left old.pile before.world) (entries_left old.data before.world))) (sym (ap front_left none))
+        (jam_data u n _ _ over (subst (λ (told : Option (List Entry)). Fronts (Long u n) told) (rest_apart old before between looks) long)));
+  }
 
   -- nothing is left
-  pub rest_empty : old.front ≡ None → HasNone (pile_left old.pile before.world) → HasNone (entries_left old.data between.world) → Lacks hopper_feed old new before after Empty
+  rest_empty : old.front ≡ None → HasNone (pile_left old.pile before.world) → HasNone (entries_left old.data between.world) → Lacks hopper_feed old new before after Empty
   rest_empty none over end =
       let end_rest : HasNone (entries_left old.data before.world) = subst HasNone (rest_apart old before between looks) end in
       record {
@@ -145,15 +160,31 @@ module _ (old new : Hopper) (mid : Pile) (before between after : Seen) (looks : 
   rest_behind more.No over entry = record { stays = rest_stays; front = front; says = none_after (pile_left new.pile after.world) (entries_left new.data after.world) (pile_over over) (subst HasNone (sym entry.0) entry.1) }
   rest_behind more.Failed over entry = record { stays = rest_stays; rose = omega (arith, looks.later, entry.1) }
 
+-- the data answer for the hopper behind a pile that has none left
+pub rest_lacks : (old new : Hopper) (mid : Pile) (before between after : Seen) → old.front ≡ None → LooksAt (same_unit units.Deck) before between → pile_left mid between.world ≡ pile_left old.pile before.world → HasNone (pile_left old.pile before.world)
+    → new.pile ≡ mid → LooksAt (same_unit units.Data) between after → (got : Held) → (got ≡ held.AtFront → ⊥) → HoldsNext old.front new.front (entries_left old.data between.world) (entries_left new.data after.world) between after got
+    → Holds old new before after got
+rest_lacks old new mid before between after none looks left over pile looks_rest held.AtFront other holds = absurd (other refl)
+rest_lacks old new mid before between after none looks left over pile looks_rest held.Empty other holds = rest_empty old new mid before between after looks left holds.0 pile looks_rest holds.1 none over holds.2
+rest_lacks old new mid before between after none looks left over pile looks_rest (held.Jam u n) other holds = rest_jams old new mid before between after looks left holds.0 pile looks_rest holds.1 u n none over holds.2
+rest_lacks old new mid before between after none looks left over pile looks_rest held.Failed other holds = record { stays = rest_stays old new mid before between after looks left holds.0 pile looks_rest holds.1; rose = omega (arith, looks.later, holds.2) }
+
+-- whatever comes of it, nothing of the meaning changed
+pub held_stays : (old new : Hopper) (before after : Seen) (got : Held) → Holds old new before after got → Stays hopper_feed old new before after
+held_stays old new before after held.AtFront holds = holds
+held_stays old new before after held.Empty holds = holds.stays
+held_stays old new before after (held.Jam u n) holds = holds.stays
+held_stays old new before after held.Failed holds = holds.stays
+
 -- What stands at the front is taken as a card.
-pub front_taken : (old mid end new : Hopper) (before between after : Seen) (front : Front) (last : Bool) (text : List ℕ) → HoldsFront old mid before between front → SaysBehind mid end between after last
+pub front_taken : (old mid end new : Hopper) (before between after : Seen) (front : Front) (last : Bool) (text : List ℕ) → Stays hopper_feed old mid before between → mid.front ≡ Some front → SaysBehind mid end between after last
     → new.front ≡ None → new.pile ≡ end.pile → new.data ≡ end.data → text ≡ text_as_card (front_text front) → Gives hopper_feed old new before after (record { text = text; last = last })
-front_taken old mid end new before between after front last text holds says none pile rest is =
+front_taken old mid end new before between after front last text stays holds says none pile rest is =
     let whole : entries_in_order (Text (front_text front) ∷ []) (pile_left end.pile after.world) (entries_left end.data after.world) ≡ hopper_left old before.world =
-    sym (ap (λ f. entries_in_order (front_left f) (pile_left end.pile after.world) (entries_left end.data after.world)) (says.front ∙ holds.front)) ∙ says.stays.left ∙ holds.stays.left in
+    sym (ap (λ f. entries_in_order (front_left f) (pile_left end.pile after.world) (entries_left end.data after.world)) (says.front ∙ holds)) ∙ says.stays.left ∙ stays.left in
     let given = given_card (front_text front) last (pile_left end.pile after.world) (entries_left end.data after.world) says.says in
     record {
-      looks = looks_on before between after holds.stays.looks says.stays.looks;
+      looks = looks_on before between after stays.looks says.stays.looks;
       left = same_joined _ _ _ _ _ _ (ap front_left none) (ap (λ (p : Pile). pile_left p after.world) pile) (ap (λ (lines : Lines). entries_left lines after.world) rest)
           ∙ behind_front (front_text front) (pile_left end.pile after.world) (entries_left end.data after.world) ∙ ap (λ (told : Option (List Entry)). option_map behind told) whole;
       given = subst (λ (t : List ℕ). Given (hopper_left old before.world) (λ es. next_card es ≡ Ok (record { text = t; last = last }))) (sym is)

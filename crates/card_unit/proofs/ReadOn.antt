@@ -79,16 +79,6 @@ module _ (start : Start) (readings : List Reading) where
     to_come = come;
   }
 
-  -- the front is the pile's first
-  pile_front : (u : unit.Unit) (front : Front) (e : Entry) (told : Told) → Fronts e told → IfSome told (λ left. AreToCome None u (length left) to_come) → IfSome (option_map behind told) (λ left. AreToCome (Some front) units.Deck (length left) to_come)
-  pile_front u front e None fronts come = tt
-  pile_front u front e (Some es) fronts come = let size : length es ≡ length (e ∷ behind es) = ap length fronts in omega (arith, size, come)
-
-  -- it is the data's first, where the pile has none
-  data_front : (u : unit.Unit) (front : Front) (told : Told) → HasNone told → IfSome told (λ left. AreToCome None u (length left) to_come) → IfSome told (λ left. AreToCome (Some front) units.Data (length left) to_come)
-  data_front u front None none come = tt
-  data_front u front (Some es) none come = let size : length es ≡ 0 = ap length none in (size, sym come ∙ size)
-
   module _ (old new : Hopper) (v w : World) (had : HasReadBy start readings old v) (ahead : IsOneAhead new w) (read : new.read ≡ old.read) (bad : new.bad ≡ old.bad) (left : hopper_left new w ≡ hopper_left old v) where
     -- nothing came to the front
     pub none_came : new.front ≡ old.front → new.from ≡ old.from → pile_left new.pile w ≡ pile_left old.pile v → HasReadBy start readings new w
@@ -97,28 +87,6 @@ module _ (start : Start) (readings : List Reading) where
         (subst (λ (f : Option Front). IfSome (pile_left new.pile w) (λ left. AreToCome f new.from (length left) to_come)) (sym front)
         (subst (λ (u : unit.Unit). IfSome (pile_left new.pile w) (λ left. AreToCome old.front u (length left) to_come)) (sym from)
         (subst (λ (told : Told). IfSome told (λ left. AreToCome old.front old.from (length left) to_come)) (sym pile) had.to_come)))
-
-    come_none : old.front ≡ None → IfSome (pile_left old.pile v) (λ left. AreToCome None old.from (length left) to_come)
-    come_none none = subst (λ (f : Option Front). IfSome (pile_left old.pile v) (λ left. AreToCome f old.from (length left) to_come)) none had.to_come
-
-    -- a card came of a unit
-    came : (front : Front) (u : unit.Unit) → new.front ≡ Some front → new.from ≡ u → IsOfCards u → IfSome (pile_left new.pile w) (λ left. AreToCome (Some front) u (length left) to_come) → HasReadBy start readings new w
-    came front u some from of come =
-        same_read old new v w had ahead read bad left (subst IsOfCards (sym from) of)
-        (subst (λ (f : Option Front). IfSome (pile_left new.pile w) (λ left. AreToCome f new.from (length left) to_come)) (sym some)
-        (subst (λ (u : unit.Unit). IfSome (pile_left new.pile w) (λ left. AreToCome (Some front) u (length left) to_come)) (sym from) come))
-
-    -- of the pile
-    pub pile_came : (front : Front) (e : Entry) → old.front ≡ None → new.front ≡ Some front → new.from ≡ units.Deck → pile_left new.pile w ≡ option_map behind (pile_left old.pile v) → Fronts e (pile_left old.pile v) → HasReadBy start readings new w
-    pile_came front e none some from pile fronts =
-        came front units.Deck some from (inl refl)
-        (subst (λ (told : Told). IfSome told (λ left. AreToCome (Some front) units.Deck (length left) to_come)) (sym pile) (pile_front old.from front e (pile_left old.pile v) fronts (come_none none)))
-
-    -- of the data
-    pub data_came : (front : Front) → old.front ≡ None → new.front ≡ Some front → new.from ≡ units.Data → pile_left new.pile w ≡ pile_left old.pile v → HasNone (pile_left old.pile v) → HasReadBy start readings new w
-    data_came front none some from pile over =
-        came front units.Data some from (inr refl)
-        (subst (λ (told : Told). IfSome told (λ left. AreToCome (Some front) units.Data (length left) to_come)) (sym pile) (data_front old.from front (pile_left old.pile v) over (come_none none)))
 
 -- One card more.
 

@@ -19,8 +19,8 @@ use Rattle.card_unit.specs.Counts.{line_of, cards_of}
 use Rattle.card_unit.specs.declared.hopper.Hopper.{Hopper}
 use Rattle.card_unit.specs.declared.hopper.CardAnswer.{CardAnswer}
 use Rattle.card_unit.specs.declared.hopper.CardAnswer.TheVariants as answer
-use Rattle.card_unit.specs.declared.hopper.Held.{Held}
-use Rattle.card_unit.specs.declared.hopper.Held.TheVariants as held
+use Rattle.card_unit.specs.declared.front.Held.{Held}
+use Rattle.card_unit.specs.declared.front.Held.TheVariants as held
 use Rattle.card_unit.specs.declared.front.Front.{Front}
 use Rattle.card_unit.specs.declared.pile.Pile.{Pile}
 use Rattle.card_unit.specs.Front.{front_text}
@@ -78,14 +78,9 @@ card_ending answer.Failed = None
 abbrev pub NextCard : Hopper → Hopper → Seen → Seen → CardAnswer → Type 0
 NextCard old new before after got = TakesNext hopper_feed old new before after (card_ending got)
 
--- the next card, or the text that stands for it, is at the front
-pub record HoldsFront (old new : Hopper) (before after : Seen) (held : Front) : Type 0 where
-  pub stays : Stays hopper_feed old new before after
-  pub front : new.front ≡ Some held
-
 -- what comes of holding the next card
 abbrev pub Holds : Hopper → Hopper → Seen → Seen → Held → Type 0
-Holds old new before after (held.Yes front) = HoldsFront old new before after front
+Holds old new before after held.AtFront = Stays hopper_feed old new before after
 Holds old new before after held.Empty = Lacks hopper_feed old new before after Empty
 Holds old new before after (held.Jam u n) = Lacks hopper_feed old new before after (Jam u n)
 Holds old new before after held.Failed = Fails hopper_feed old new before after
@@ -159,13 +154,15 @@ NextOfDeck old new before after (answer.Jam u n) = DeckLacks old new before afte
 NextOfDeck old new before after answer.Failed = HasInDeck 1 old before → DeckStays old new before after
 
 -- what is at the front is the deck's first, if it has one, and the pile is what stands behind it
-pub record DeckHolds (old new : Hopper) (before after : Seen) (held : Front) : Type 0 where
+pub record DeckHolds (old new : Hopper) (before after : Seen) : Type 0 where
+  pub held : Front
+  pub front : new.front ≡ Some held
   pub left : pile_left new.pile after.world ≡ option_map behind (deck_left old before.world)
   pub first : IfSome (deck_left old before.world) (FrontIs (Text (front_text held)))
 
 -- what the holding of the next card does to the deck
 abbrev pub HoldsOfDeck : Hopper → Hopper → Seen → Seen → Held → Type 0
-HoldsOfDeck old new before after (held.Yes front) = DeckHolds old new before after front
+HoldsOfDeck old new before after held.AtFront = DeckHolds old new before after
 HoldsOfDeck old new before after held.Empty = DeckLacks old new before after (λ es. es ≡ [])
 HoldsOfDeck old new before after (held.Jam u n) = DeckLacks old new before after (FrontIs (Long u n))
 HoldsOfDeck old new before after held.Failed = DeckStays old new before after

@@ -1,18 +1,18 @@
 -- What lies in a hopper before the data cards: cards, or the lines of Deck.
-use Rattle.std.specs.Prelude.{ℕ, ◌≡◌, ◌≤◌, ⊤, Bool, false, ◌||◌, List, map, drop, Option, Some, None, option_map}
+use Rattle.std.specs.Prelude.{ℕ, ◌≤◌, ⊤, Bool, false, ◌||◌, List, map, drop, Option, Some, None}
 use Rattle.outside_io.specs.declared.host.Unit as unit
 use Rattle.outside_io.specs.declared.host.Unit.TheVariants as units
-use Rattle.outside_io.specs.World.{World, Seen, Rose, same_unit}
+use Rattle.outside_io.specs.World.{World, Seen, same_unit}
 use Rattle.outside_io.specs.Frame.{Keeps}
 use Rattle.card_code.specs.declared.Card.{Card}
-use Rattle.card_code.specs.{Entry, Text, Long, behind, unit_of, entries_left, HasNone, MoreEntries}
-use Rattle.card_code.specs.Reader.{Fronts, IsInTurn, IsOneAhead}
+use Rattle.card_code.specs.{Entry, Text, unit_of, entries_left, MoreEntries}
+use Rattle.card_code.specs.Reader.{IsInTurn, IsOneAhead}
 use Rattle.card_code.specs.declared.lines.More.{More}
-use Rattle.card_unit.specs.Front.{front_text}
+use Rattle.card_unit.specs.declared.front.Front.{Front}
+use Rattle.card_unit.specs.declared.front.Held.{Held}
+use Rattle.card_unit.specs.Front.{HoldsNext}
 use Rattle.card_unit.specs.declared.pile.Pile.{Pile}
 use Rattle.card_unit.specs.declared.pile.Pile.TheVariants as pile
-use Rattle.card_unit.specs.declared.pile.PileAnswer.{PileAnswer}
-use Rattle.card_unit.specs.declared.pile.PileAnswer.TheVariants as answer
 
 -- a card as an entry
 abbrev pub card_entry : Card → Entry
@@ -55,15 +55,10 @@ pub record LooksAt (reads : unit.Unit → Bool) (before after : Seen) : Type 0 w
   pub later : before.faults ≤ after.faults
   pub keeps : Keeps reads no_unit false before.world after.world
 
--- what the taking of what stands next does to the entries of a pile
-abbrev pub NextEntryOf : Option (List Entry) → Option (List Entry) → Seen → Seen → PileAnswer → Type 0
-NextEntryOf old new before after (answer.Next front) = (new ≡ option_map behind old) × Fronts (Text (front_text front)) old
-NextEntryOf old new before after answer.End = (new ≡ old) × HasNone old
-NextEntryOf old new before after (answer.Jam number) = (new ≡ old) × Fronts (Long units.Deck number) old
-NextEntryOf old new before after answer.Failed = (new ≡ old) × Rose before.faults after.faults
-
-abbrev pub NextFront : Pile → Pile → Seen → Seen → PileAnswer → Type 0
-NextFront old new before after got = NextEntryOf (pile_left old before.world) (pile_left new after.world) before after got
+-- what the holding of what stands next does to the entries of a pile and to the front
+abbrev pub HoldsOfPile : Pile → Pile → Option Front → Option Front → Seen → Seen → Held → Type 0
+HoldsOfPile old new front new_front before after got =
+    HoldsNext front new_front (pile_left old before.world) (pile_left new after.world) before after got
 
 -- what the look ahead says of the entries of a pile
 abbrev pub MoreFronts : Pile → Pile → Seen → Seen → More → Type 0

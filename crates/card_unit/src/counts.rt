@@ -23,7 +23,7 @@ pub(crate) const NONE_READ: CardsRead = CardsRead {
 
 impl CardsRead {
     // One more, of a unit.
-    pub(crate) fn with_one(self, unit: Unit) -> CardsRead
+    pub(crate) fn one_more_read(self, unit: Unit) -> CardsRead
         ensures { result ≡ one_more_read unit self }
     {
         let CardsRead { of_deck, of_data } = self;

@@ -1,14 +1,30 @@
 // What stands at the front of a hopper.
 ghost use Rattle.std.specs.Prelude.{◌≡◌};
-ghost use Rattle.card_code.specs.{text_as_card};
+ghost use Rattle.card_code.specs.{text_as_card, unit_of, entries_left};
+ghost use Rattle.card_code.specs.Reader.{Moves, IsInTurn, IsOneAhead};
+ghost use Rattle.card_unit.specs.Front.{HoldsNext};
 
-use card_code::{Card, Line};
+use card_code::{Card, Line, LineAnswer, Lines};
+use outside_io::{Host, Unit};
 
 // A card, or the text of a line that stands for one.
 #[derive(Clone, Copy)]
 pub(crate) enum Front {
     Card(Card),
     Line(Line),
+}
+
+// Whether the next card, or the text that stands for it, is at the front, and why not.
+#[derive(Clone, Copy)]
+pub(crate) enum Held {
+    // It is.
+    AtFront,
+    // None is left.
+    Empty,
+    // The next line is over 80 bytes, and stays where it is. It has this number in its unit, counted from 1.
+    Jam { unit: Unit, line: u64 },
+    // The host failed.
+    Failed,
 }
 
 impl Front {
@@ -27,5 +43,30 @@ impl Front {
             }
             Front::Line(line) => line.to_card(),
         }
+    }
+}
+
+// Holds a unit's next line at the front.
+#[inline]
+pub(crate) fn hold_line<H: Host>(
+    front: &mut Option<Front>,
+    unit: Unit,
+    lines: &mut Lines,
+    host: &mut H,
+) -> Held
+    requires { unit_of lines.old ≡ unit }
+    ensures entry { HoldsNext front.old front.new (entries_left lines.old (H.seen host.old).world)
+        (entries_left lines.new (H.seen host.new).world) (H.seen host.old) (H.seen host.new) result }
+    ensures moves { Moves lines.old lines.new (H.seen host.old) (H.seen host.new) }
+    ensures turn { IsOneAhead lines.old (H.seen host.old).world → IsInTurn lines.new (H.seen host.new).world }
+{
+    match lines.next_line(host) {
+        LineAnswer::Line(line) => {
+            *front = Some(Front::Line(line));
+            Held::AtFront
+        }
+        LineAnswer::End => Held::Empty,
+        LineAnswer::Jam(line) => Held::Jam { unit, line },
+        LineAnswer::Failed => Held::Failed,
     }
 }

@@ -8,9 +8,9 @@ ghost use Rattle.card_unit.specs.Pile.{pile_unit};
 ghost use Rattle.read_checks.specs.Readings.{bad_from, with_bad};
 
 use crate::counts::{CardsRead, NONE_READ};
-use crate::front::Front;
-use crate::pile::{Pile, PileAnswer};
-use card_code::{Card, LineAnswer, Lines, More};
+use crate::front::{Front, Held, hold_line};
+use crate::pile::Pile;
+use card_code::{Card, Lines, More};
 use outside_io::{Host, Unit};
 use read_checks::{ReadAs, Tally};
 
@@ -36,15 +36,6 @@ pub enum CardAnswer {
         line: u64,
     },
     /// The host failed.
-    Failed,
-}
-
-// Whether the next card, or the text that stands for it, is at the front, and why not.
-#[derive(Clone, Copy)]
-enum Held {
-    Yes(Front),
-    Empty,
-    Jam { unit: Unit, line: u64 },
     Failed,
 }
 
@@ -136,7 +127,7 @@ impl Hopper {
         ensures reads_on { ReadsOn self.old self.new (H.seen host.old) (H.seen host.new) }
     {
         match self.hold(host) {
-            Held::Yes(_) => {}
+            Held::AtFront => {}
             Held::Empty => return CardAnswer::Empty,
             Held::Jam { unit, line } => return CardAnswer::Jam { unit, line },
             Held::Failed => return CardAnswer::Failed,
@@ -152,7 +143,7 @@ impl Hopper {
             None => unreachable!(),
         };
         self.front = None;
-        self.read = self.read.with_one(self.from);
+        self.read = self.read.one_more_read(self.from);
         CardAnswer::Card { card, last }
     }
 
@@ -199,35 +190,23 @@ impl Hopper {
         ensures reads { ReadsNone self.old self.new (H.seen host.old) (H.seen host.new) }
     {
         match self.front {
-            Some(front) => return Held::Yes(front),
+            Some(_) => return Held::AtFront,
             None => {}
         }
-        match self.pile.next_front(host) {
-            PileAnswer::Next(front) => {
+        match self.pile.hold(&mut self.front, host) {
+            Held::AtFront => {
                 self.from = Unit::Deck;
-                self.front = Some(front);
-                return Held::Yes(front);
+                return Held::AtFront;
             }
-            PileAnswer::End => {}
-            PileAnswer::Jam(line) => {
-                let unit = Unit::Deck;
-                return Held::Jam { unit, line };
-            }
-            PileAnswer::Failed => return Held::Failed,
+            Held::Empty => {}
+            held => return held,
         }
-        match self.data.next_line(host) {
-            LineAnswer::Line(line) => {
-                let front = Front::Line(line);
+        match hold_line(&mut self.front, Unit::Data, &mut self.data, host) {
+            Held::AtFront => {
                 self.from = Unit::Data;
-                self.front = Some(front);
-                Held::Yes(front)
+                Held::AtFront
             }
-            LineAnswer::End => Held::Empty,
-            LineAnswer::Jam(line) => {
-                let unit = Unit::Data;
-                Held::Jam { unit, line }
-            }
-            LineAnswer::Failed => Held::Failed,
+            held => held,
         }
     }
 

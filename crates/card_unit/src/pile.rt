@@ -3,22 +3,9 @@ ghost use Rattle.std.specs.Prelude.{◌≡◌};
 ghost use Rattle.outside_io.specs.declared.host.Unit.TheVariants as units;
 ghost use Rattle.outside_io.specs.World.{same_unit};
 
-use crate::front::Front;
-use card_code::{Card, LineAnswer, Lines, More};
-use outside_io::Host;
-
-// What comes of taking what stands next in a pile.
-#[derive(Clone, Copy)]
-pub(crate) enum PileAnswer {
-    // It is taken.
-    Next(Front),
-    // Nothing is left.
-    End,
-    // The next line is over 80 bytes, and stays where it is. This is its number, counted from 1.
-    Jam(u64),
-    // The host failed.
-    Failed,
-}
+use crate::front::{Front, Held, hold_line};
+use card_code::{Card, Lines, More};
+use outside_io::{Host, Unit};
 
 // Cards, of which the first ones are gone, or the lines of the unit Deck.
 #[derive(Drop)]
@@ -29,33 +16,28 @@ pub(crate) enum Pile {
 
 impl Pile {
     ghost use Rattle.card_code.specs.declared.lines.More.TheVariants as more;
-    ghost use Rattle.card_unit.specs.Pile.{LooksAt, pile_unit, pile_cards, NextFront, MoreFronts, IsPileAhead, IsPileInTurn};
+    ghost use Rattle.card_unit.specs.Pile.{LooksAt, pile_unit, pile_cards, HoldsOfPile, MoreFronts, IsPileAhead, IsPileInTurn};
 
-    // Takes what stands next in the pile.
-    pub(crate) fn next_front<H: Host>(&mut self, host: &mut H) -> PileAnswer
+    // Holds what stands next in the pile at the front.
+    pub(crate) fn hold<H: Host>(&mut self, front: &mut Option<Front>, host: &mut H) -> Held
         requires { pile_unit self.old ≡ units.Deck }
         ensures unit { pile_unit self.new ≡ units.Deck }
         ensures cards { pile_cards self.new ≡ pile_cards self.old }
         ensures looks { LooksAt (same_unit units.Deck) (H.seen host.old) (H.seen host.new) }
-        ensures entry { NextFront self.old self.new (H.seen host.old) (H.seen host.new) result }
+        ensures entry { HoldsOfPile self.old self.new front.old front.new (H.seen host.old) (H.seen host.new) result }
         ensures turn { IsPileAhead self.old (H.seen host.old).world
             → IsPileInTurn self.new (H.seen host.new).world }
     {
         match self {
             Pile::Cards { cards, gone } => {
                 if *gone >= cards.len() {
-                    return PileAnswer::End;
+                    return Held::Empty;
                 }
-                let card = cards[*gone];
+                *front = Some(Front::Card(cards[*gone]));
                 *gone += 1;
-                PileAnswer::Next(Front::Card(card))
+                Held::AtFront
             }
-            Pile::Deck(lines) => match lines.next_line(host) {
-                LineAnswer::Line(line) => PileAnswer::Next(Front::Line(line)),
-                LineAnswer::End => PileAnswer::End,
-                LineAnswer::Jam(line) => PileAnswer::Jam(line),
-                LineAnswer::Failed => PileAnswer::Failed,
-            },
+            Pile::Deck(lines) => hold_line(front, Unit::Deck, lines, host),
         }
     }
 

@@ -74,7 +74,7 @@ pub fn read_num<const M: u32, H: Host>(
             turn_on_last(panel, last);
             let room = (core.size() - p) as usize;
             let stored = store_digits(core, p, &card.0, panel);
-            end(hopper, ReadAs::Digit, &card.0, room, stored, panel)
+            stored_ending(hopper, ReadAs::Digit, &card.0, room, stored, panel)
         }
         CardAnswer::Empty => CardIo::Empty,
         CardAnswer::Jam { unit, line } => CardIo::Jam { unit, line },
@@ -115,7 +115,7 @@ pub fn read_alpha<const M: u32, H: Host>(
             turn_on_last(panel, last);
             let room = ((core.size() - (p - 1)) / 2) as usize;
             let stored = store_pairs(core, p - 1, &card.0, panel);
-            end(hopper, ReadAs::Pair, &card.0, room, stored, panel)
+            stored_ending(hopper, ReadAs::Pair, &card.0, room, stored, panel)
         }
         CardAnswer::Empty => CardIo::Empty,
         CardAnswer::Jam { unit, line } => CardIo::Jam { unit, line },
@@ -135,7 +135,7 @@ fn turn_on_last(panel: &mut Panel, last: bool)
 // How a reading ends of whose card so much was stored. The bad ones among its first characters, as many as core had room for, are
 // taken up; while 06 is off behind a card that was stored whole, there are none.
 #[inline]
-fn end(
+fn stored_ending(
     hopper: &mut Hopper,
     how: ReadAs,
     card: &[u8],

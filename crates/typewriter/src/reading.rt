@@ -69,7 +69,7 @@ pub fn read_num<const M: u32, H: Host>(
             let text = line.as_bytes();
             let room = (core.size() - p) as usize;
             let stored = store_digits(core, p, text, panel);
-            end(keys, ReadAs::Digit, text, room, stored, panel)
+            stored_ending(keys, ReadAs::Digit, text, room, stored, panel)
         }
         LineAnswer::End => KeyIo::NoKeys,
         LineAnswer::Jam(number) => KeyIo::Jam(number),
@@ -108,7 +108,7 @@ pub fn read_alpha<const M: u32, H: Host>(
             let text = line.as_bytes();
             let room = ((core.size() - (p - 1)) / 2) as usize;
             let stored = store_pairs(core, p - 1, text, panel);
-            end(keys, ReadAs::Pair, text, room, stored, panel)
+            stored_ending(keys, ReadAs::Pair, text, room, stored, panel)
         }
         LineAnswer::End => KeyIo::NoKeys,
         LineAnswer::Jam(number) => KeyIo::Jam(number),
@@ -118,7 +118,7 @@ pub fn read_alpha<const M: u32, H: Host>(
 
 // How a reading ends of whose line so much was stored. The bad ones among its first characters, as many as core had room for, are taken up;
 // while 06 is off behind a line that was stored whole, there are none.
-fn end(
+fn stored_ending(
     keys: &mut Keyboard,
     how: ReadAs,
     text: &[u8],

@@ -7,19 +7,19 @@ use Rattle.read_checks.specs.declared.ReadAs.TheVariants.{Digit}
 use Rattle.typewriter.proofs.KeysRead.{digits_good, line_reads, line_said, goes_on}
 use Rattle.typewriter.proofs.reading.read_num.Goals as goal
 
-pub end-requires-clause-good : goal.end-requires-clause-good
-end-requires-clause-good g c =
+pub stored_ending-requires-clause-good : goal.stored_ending-requires-clause-good
+stored_ending-requires-clause-good g c =
     digits_good c.args.core.now c.store_digits-stored.new.core c.args.panel.now c.store_digits-stored.new.panel (size g.row.M) c.args.p c.next_line.new.self.read (c.size.result - c.args.p) c.as_bytes-text.result.now c.store_digits-stored.result c.store_digits-stored.ensures.changed
 
 pub returns-in-Line-clause-reads : goal.returns-in-Line-clause-reads
 returns-in-Line-clause-reads g c =
-    line_reads (store_digits (size g.row.M) c.args.p) c.args.core.now c.args.panel.now _ c.store_digits-stored.new.core c.store_digits-stored.new.panel c.store_digits-stored.result c.args.keys.now c.next_line.new.self c.end.new.keys _ _ _ c.in-Line.ensures.next c.end.ensures.tallied
-    c.as_bytes-text.result.now c.as_bytes-text.ensures.is c.store_digits-stored.ensures.changed c.end.result c.end.ensures.answer
+    line_reads (store_digits (size g.row.M) c.args.p) c.args.core.now c.args.panel.now _ c.store_digits-stored.new.core c.store_digits-stored.new.panel c.store_digits-stored.result c.args.keys.now c.next_line.new.self c.stored_ending.new.keys _ _ _ c.in-Line.ensures.next c.stored_ending.ensures.tallied
+    c.as_bytes-text.result.now c.as_bytes-text.ensures.is c.store_digits-stored.ensures.changed c.stored_ending.result c.stored_ending.ensures.answer
 
 pub returns-in-Line-clause-as_said : goal.returns-in-Line-clause-as_said
 returns-in-Line-clause-as_said g c =
-    line_said Digit (size g.row.M - c.args.p) c.args.keys.now c.next_line.new.self c.end.new.keys _ _ (text_of_line c.in-Line.line) c.as_bytes-text.result.now (c.size.result - c.args.p) c.store_digits-stored.result c.end.result c.in-Line.ensures.reading
-    c.as_bytes-text.ensures.is (ap (λ (n : ℕ). n - c.args.p) c.size.ensures.size) c.end.ensures.tallied c.end.ensures.answer
+    line_said Digit (size g.row.M - c.args.p) c.args.keys.now c.next_line.new.self c.stored_ending.new.keys _ _ (text_of_line c.in-Line.line) c.as_bytes-text.result.now (c.size.result - c.args.p) c.store_digits-stored.result c.stored_ending.result c.in-Line.ensures.reading
+    c.as_bytes-text.ensures.is (ap (λ (n : ℕ). n - c.args.p) c.size.ensures.size) c.stored_ending.ensures.tallied c.stored_ending.ensures.answer
 
 pub returns-in-Line-clause-reads_on : goal.returns-in-Line-clause-reads_on
-returns-in-Line-clause-reads_on g c = goes_on Digit (size g.row.M - c.args.p) c.args.keys.now c.end.new.keys _ _ c.end.result (returns-in-Line-clause-as_said g c)
+returns-in-Line-clause-reads_on g c = goes_on Digit (size g.row.M - c.args.p) c.args.keys.now c.stored_ending.new.keys _ _ c.stored_ending.result (returns-in-Line-clause-as_said g c)

@@ -1,5 +1,5 @@
 use Rattle.typewriter.proofs.LinesRead.{none_taken_up}
-use Rattle.typewriter.proofs.reading.end.Goals as goal
+use Rattle.typewriter.proofs.reading.stored_ending.Goals as goal
 
 pub returns-else-panel-clause-tallied : goal.returns-else-panel-clause-tallied
 returns-else-panel-clause-tallied c =

@@ -1,5 +1,5 @@
 use Rattle.card_unit.proofs.CardsTallied.{none_taken_up}
-use Rattle.card_unit.proofs.reader.end.Goals as goal
+use Rattle.card_unit.proofs.reader.stored_ending.Goals as goal
 
 pub returns-else-panel-clause-tallied : goal.returns-else-panel-clause-tallied
 returns-else-panel-clause-tallied c =
