@@ -11,7 +11,7 @@ ghost use Rattle.card_unit.specs.CardCalls.{Punches, PunchesPairs};
 ghost use Rattle.digit_core.specs.declared.TheConstants.{MOST_POSITIONS};
 
 use crate::reader::CardIo;
-use addr_indirect::Stop;
+use addr_indirect::{Stop, read_at};
 use card_code::{Card, char_of_pair, put_punch_chars};
 use digit_core::{Core, Digit, are_good, digit_in};
 use indicators::Panel;
@@ -118,7 +118,7 @@ fn digits_card<const M: u32>(core: &Core<M>, a: u32, count: usize) -> Result<Car
                 k += 10;
             }
             None => {
-                columns[k] = card_code::punch_num(addr_indirect::read_at(core, at)?);
+                columns[k] = card_code::punch_num(read_at(core, at)?);
                 k += 1;
             }
         }
@@ -150,8 +150,8 @@ fn pairs_card<const M: u32>(core: &Core<M>, a: u32, panel: &mut Panel) -> Result
         let ten = good_ten(core, from);
         for j in 0..5 {
             let k = 5 * i + j;
-            let zone = read_at(core, from, ten, 2 * j as u32)?;
-            let number = read_at(core, from, ten, 2 * j as u32 + 1)?;
+            let zone = digit_of(core, from, ten, 2 * j as u32)?;
+            let number = digit_of(core, from, ten, 2 * j as u32 + 1)?;
             columns[k] = char_of_pair(zone, number, panel);
         }
     }
@@ -172,7 +172,7 @@ fn good_ten<const M: u32>(core: &Core<M>, a: u32) -> Option<u64>
 
 // The digit at `a + j`, from the word of the ten cells from `a` upwards where there is one.
 #[inline]
-fn read_at<const M: u32>(core: &Core<M>, a: u32, ten: Option<u64>, j: u32) -> Result<Digit, Stop>
+fn digit_of<const M: u32>(core: &Core<M>, a: u32, ten: Option<u64>, j: u32) -> Result<Digit, Stop>
     requires near { a ≤ 61000 }
     requires place { j < 10 }
     requires held { IfSome ten (HasGoodTen core.now a) }
@@ -180,7 +180,7 @@ fn read_at<const M: u32>(core: &Core<M>, a: u32, ten: Option<u64>, j: u32) -> Re
 {
     match ten {
         Some(word) => Ok(digit_in(word, j)),
-        None => addr_indirect::read_at(core, a + j),
+        None => read_at(core, a + j),
     }
 }
 

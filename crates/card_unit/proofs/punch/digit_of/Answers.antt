@@ -1,6 +1,6 @@
 -- A digit of the word.
 use Rattle.card_unit.proofs.CardsPunched.{read_good}
-use Rattle.card_unit.proofs.punch.read_at.Goals as goal
+use Rattle.card_unit.proofs.punch.digit_of.Goals as goal
 
 pub returns-in-Some : goal.returns-in-Some
 returns-in-Some g c =
