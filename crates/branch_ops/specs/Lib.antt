@@ -1,4 +1,5 @@
 pub mod Registers
 pub mod Operands
+pub mod Fields
 pub mod Branch
 pub mod Carried

@@ -3,13 +3,18 @@
 //! A branch goes to P's operand always or by a test, of a digit in core or of an indicator; else the machine goes on with the next
 //! instruction. Its operands, those that the table of instructions names, are worked out whether or not it is taken. BT and BTM also move a
 //! field to P-1 and keep the next instruction's address in IR-2, to which BB goes back.
+//!
+//! The operands of all other instructions are worked out in the same way, from the fields of their own digits: the machine does it by these
+//! calls too.
 #![tactic(auto)]
 
 ghost use Rattle.std.specs.Prelude.{◌≡◌};
 ghost use Rattle.branch_ops.specs.Branch.{branch_by, branch_of};
 
+mod fields;
 mod rows;
 
+pub use fields::{FieldKind, Fields, Operands, Uses, uses_by};
 use instruction_table::{BranchOp, InstructionRow, Op, instruction_of};
 pub use rows::{BranchOperands, branch, branch_known, tested_code};
 

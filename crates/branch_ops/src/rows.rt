@@ -1,18 +1,19 @@
 // The branches, one after another.
-ghost use Rattle.std.specs.Prelude.{◌≡◌, ◌+◌, ◌<◌, ◌≤◌, ◌^◌, if◌then◌else◌, IsSome, OnErr, OnOk, IfOk, Ok, List, ℕ};
+ghost use Rattle.std.specs.Prelude.{◌≡◌, ◌+◌, ◌<◌, ◌≤◌, ◌^◌, if◌then◌else◌, IsSome, OnErr, OnOk, Ok, List, ℕ};
 ghost use Rattle.digit_core.specs.Size.{size};
 ghost use Rattle.addr_indirect.specs.Fetch.{fetch};
 ghost use Rattle.branch_ops.specs.Branch.{go_if};
 ghost use Rattle.instruction_table.specs.declared.BranchOp.TheVariants.{Bd, Bnf, Bnr, Bng, Bi, Bni};
 ghost use Rattle.branch_ops.specs.Carried.{branch_in, processor, Carries, CarriesKnown, CarriesOut, GoesByDigit, GoesByTest, Transmits};
-ghost use Rattle.branch_ops.specs.Operands.{branch_operands, column_by, operands_used, tested_code};
+ghost use Rattle.branch_ops.specs.Operands.{code_by, column_by, operands_used, tested_code};
 
+use crate::fields::{Fields, Uses, uses_by};
 use crate::{Regs, branch_of};
-use addr_indirect::{Instr, Stop, immediate_q, p_operand, q_operand, read_at};
+use addr_indirect::{Instr, Stop, read_at};
 use digit_core::{Core, GROUP_MARK, RECORD_MARK};
 use field_moves::tf;
 use indicators::Panel;
-use instruction_table::{BranchOp, InstructionRow, OperandUse, instruction_of};
+use instruction_table::{BranchOp, InstructionRow, MayStore, OperandUse, instruction_of};
 
 /// Carries a branch out, and gives the address of the next instruction: P's operand, IR-2, or `regs.ir + 12`.
 ///
@@ -99,16 +100,18 @@ fn carry_out<const M: u32>(
     panel: &mut Panel,
     i: &Instr,
 ) -> Result<u32, Stop>
-    requires { regs.old.ir + 12 ≤ size M }
+    requires inside { regs.old.ir + 12 ≤ size M }
+    requires fetched { fetch core.old regs.old.ir ≡ Ok i.now }
     ensures row { let before = processor core.old panel.old regs.old in
         let after = processor core.new panel.new regs.new in
         Carries op i.now before after result }
     ensures stop { OnErr result ((regs.new ≡ regs.old) × (panel.new ≡ panel.old)) }
 {
     core.size_law();
-    let ir = regs.ir;
-    match operands(core, ir, i) {
-        Ok(o) => branch_known(op, o, core, regs, panel),
+    let column = operands_used(i);
+    let fields = Fields::of(uses_by(column, Uses::Neither), MayStore::Anywhere, i);
+    match fields.operands(core, regs.ir) {
+        Ok(o) => branch_known(op, o.tested(code_by(column, i)), core, regs, panel),
         Err(stop) => Err(stop),
     }
 }
@@ -120,7 +123,7 @@ fn branch_in(instr: &Instr) -> Option<BranchOp>
     branch_of(instr.opcode()?)
 }
 
-// The operands that an instruction uses, by its row of the table of instructions.
+// The column of an instruction, by its row of the table of instructions.
 fn operands_used(instr: &Instr) -> OperandUse
     ensures { result ≡ operands_used instr.now }
 {
@@ -140,39 +143,13 @@ fn column_by(row: Option<InstructionRow>) -> OperandUse
     }
 }
 
-// Works out the operands that a branch uses, P's before Q's.
-fn operands<const M: u32>(core: &Core<M>, ir: u32, instr: &Instr) -> Result<BranchOperands, Stop>
-    requires { ir + 12 ≤ size M }
-    ensures is { result ≡ branch_operands (operands_used instr.now) core.now ir instr.now }
-    ensures p { IfOk result (λ o. o.p < size M) }
-    ensures q { IfOk result (λ o. o.q < size M) }
+// The indicator that a branch tests, by its column; 0 where it tests none.
+fn code_by(column: OperandUse, i: &Instr) -> u8
+    ensures { result ≡ code_by column i.now }
 {
-    core.size_law();
-    let code = 0;
-    match operands_used(instr) {
-        OperandUse::Both => {
-            let p = p_operand(core, ir)?;
-            let q = q_operand(core, ir)?;
-            Ok(BranchOperands { p, q, code })
-        }
-        OperandUse::Field => {
-            let p = p_operand(core, ir)?;
-            Ok(BranchOperands {
-                p,
-                q: immediate_q(ir),
-                code,
-            })
-        }
-        OperandUse::Indicator => {
-            let p = p_operand(core, ir)?;
-            let code = tested_code(instr);
-            Ok(BranchOperands { p, q: 0, code })
-        }
-        OperandUse::First => {
-            let p = p_operand(core, ir)?;
-            Ok(BranchOperands { p, q: 0, code })
-        }
-        _ => Ok(BranchOperands { p: 0, q: 0, code }),
+    match column {
+        OperandUse::Indicator => tested_code(i),
+        _ => 0,
     }
 }
 

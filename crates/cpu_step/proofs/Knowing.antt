@@ -17,10 +17,10 @@ use Rattle.instruction_table.specs.declared.MayStore.TheVariants.{Nothing}
 use Rattle.instruction_table.specs.declared.BranchOp.TheVariants.{B}
 use Rattle.cpu_step.specs.declared.rows.Row.{Row}
 use Rattle.cpu_step.specs.declared.rows.Row.TheVariants as rows
-use Rattle.cpu_step.specs.declared.rows.Uses.{Uses}
-use Rattle.cpu_step.specs.declared.rows.Uses.TheVariants.{Both, OddBoth, First, OddFirst}
-use Rattle.cpu_step.specs.declared.rows.Operands.{Operands}
-use Rattle.cpu_step.specs.declared.fields.Fields.{Fields}
+use Rattle.branch_ops.specs.declared.fields.Uses.{Uses}
+use Rattle.branch_ops.specs.declared.fields.Uses.TheVariants.{Both, OddBoth, First, OddFirst}
+use Rattle.branch_ops.specs.declared.fields.Operands.{Operands}
+use Rattle.branch_ops.specs.declared.fields.Fields.{Fields}
 use Rattle.cpu_step.specs.declared.memo.Known.{Known}
 use Rattle.cpu_step.specs.declared.memo.Known.TheVariants as known
 use Rattle.instruction_table.specs.declared.Op.{Op}
@@ -30,9 +30,9 @@ use Rattle.instruction_table.specs.Table.{instruction_of, op_of}
 use Rattle.cpu_step.specs.Rows.{row_of_op, with_columns, row_by_table, instruction_row, row_by, row_of_code, takes_odd}
 use Rattle.cpu_step.specs.Checks.{wants_odd}
 use Rattle.cpu_step.specs.Act.{operands}
-use Rattle.cpu_step.specs.Fields.{number_in, fields_used, operands_at, HoldOperands}
+use Rattle.branch_ops.specs.Fields.{number_in, fields_used, operands_at, HoldOperands}
 use Rattle.cpu_step.specs.Known.{instr_at, AreTwelve, AreSettled, IsRow, IsB, IsKnown, found_with, uses_in, uses_at, code_in, ComesToRow, ComesToB, ComesTo}
-use Rattle.cpu_step.proofs.Fielded.{fields_hold}
+use Rattle.branch_ops.proofs.Fielded.{fields_hold}
 use Rattle.cpu_step.proofs.TableRows.{uses_odd, b_columns}
 
 -- a row is found by the digits alone, wherever they stand

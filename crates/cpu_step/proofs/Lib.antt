@@ -12,7 +12,7 @@ pub mod Outputs
 pub mod OwnUnits
 pub mod Outside
 pub mod InputsTaken
-pub mod Fielded
+pub mod Settled
 pub mod Knowing
 pub mod Placed
 pub mod FurtherCells

@@ -29,7 +29,7 @@ use Rattle.cpu_step.specs.declared.rows.CardRow.{CardRow}
 use Rattle.cpu_step.specs.declared.rows.CardRow.TheVariants as cards
 use Rattle.cpu_step.specs.declared.rows.DiskRow.{DiskRow}
 use Rattle.cpu_step.specs.declared.rows.DiskRow.TheVariants as disk
-use Rattle.cpu_step.specs.declared.rows.Operands.{Operands}
+use Rattle.branch_ops.specs.declared.fields.Operands.{Operands}
 use Rattle.cpu_step.specs.Rows.{instruction_row}
 use Rattle.cpu_step.specs.State.{State}
 use Rattle.cpu_step.specs.Effects.{Effect, Cell, Light, Written, of_change, of_cards, of_keys, of_output, of_disk}

@@ -7,7 +7,7 @@ use Rattle.outside_io.specs.World.{World, Seen}
 use Rattle.traces.specs.Trace.{Trace, ends}
 use Rattle.cpu_step.specs.declared.machine.Machine.{Machine}
 use Rattle.cpu_step.specs.declared.rows.Row.{Row}
-use Rattle.cpu_step.specs.declared.rows.Operands.{Operands}
+use Rattle.branch_ops.specs.declared.fields.Operands.{Operands}
 use Rattle.cpu_step.specs.State.{State}
 use Rattle.cpu_step.specs.Act.{Next, Goes, action}
 use Rattle.cpu_step.specs.Step.{instruction}

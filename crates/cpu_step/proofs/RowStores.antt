@@ -46,7 +46,7 @@ use Rattle.cpu_step.specs.declared.rows.ConsoleRow.TheVariants as console
 use Rattle.cpu_step.specs.declared.rows.CardRow.{CardRow}
 use Rattle.cpu_step.specs.declared.rows.CardRow.TheVariants as cards
 use Rattle.cpu_step.specs.Rows.{takes_odd}
-use Rattle.cpu_step.specs.declared.rows.Operands.{Operands}
+use Rattle.branch_ops.specs.declared.fields.Operands.{Operands}
 use Rattle.cpu_step.specs.declared.stores.Stores as may
 use Rattle.cpu_step.specs.declared.stores.Stores.TheVariants as kinds
 use Rattle.cpu_step.specs.State.{State}

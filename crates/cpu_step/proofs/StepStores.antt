@@ -13,7 +13,7 @@ use Rattle.instruction_table.specs.declared.MayStore.{MayStore}
 use Rattle.instruction_table.specs.declared.MayStore.TheVariants as column
 use Rattle.cpu_step.specs.declared.rows.Row.{Row}
 use Rattle.cpu_step.specs.declared.rows.Found.{Found}
-use Rattle.cpu_step.specs.declared.rows.Operands.{Operands}
+use Rattle.branch_ops.specs.declared.fields.Operands.{Operands}
 use Rattle.cpu_step.specs.declared.stores.Stores as may
 use Rattle.cpu_step.specs.declared.stores.Stores.TheVariants as kinds
 use Rattle.cpu_step.specs.State.{State}

@@ -1,6 +1,6 @@
 -- What the columns of the table of instructions say of an instruction holds of its row.
 use Rattle.std.proofs.Common.{◌≡◌, ℕ, ◌==◌, Bool, true, false, List, [], ◌∷◌, refl, subst}
-use Rattle.std.specs.Prelude.{◌||◌, ◌&&◌, not, unwrap_or, ⊤, Option, Some, None, Result, Ok, Err, if◌then◌else◌}
+use Rattle.std.specs.Prelude.{◌||◌, ◌&&◌, not, ⊤, Option, Some, None, Result, Ok, Err, if◌then◌else◌}
 use Rattle.addr_indirect.specs.declared.Stop.{Stop}
 use Rattle.addr_indirect.specs.declared.Instr.{Instr}
 use Rattle.addr_indirect.specs.declared.Stop.TheVariants.{Device}
@@ -9,15 +9,12 @@ use Rattle.instruction_table.specs.declared.InstructionRow.{InstructionRow}
 use Rattle.instruction_table.specs.declared.Op.{Op}
 use Rattle.instruction_table.specs.declared.Op.TheVariants as op
 use Rattle.instruction_table.specs.declared.BranchOp.{BranchOp}
-use Rattle.instruction_table.specs.declared.OperandUse.{OperandUse}
-use Rattle.instruction_table.specs.declared.OperandUse.TheVariants as operands
 use Rattle.instruction_table.specs.declared.MayStore.{MayStore}
 use Rattle.instruction_table.specs.declared.MayStore.TheVariants as column
 use Rattle.instruction_table.specs.Table.{instructions, instruction_of, row_in, code_of, op_of, uses_of, stores_of}
 use Rattle.instruction_table.specs.declared.BranchOp.TheVariants.{B}
 use Rattle.cpu_step.specs.declared.rows.Row.{Row}
 use Rattle.cpu_step.specs.declared.rows.Row.TheVariants as row
-use Rattle.cpu_step.specs.declared.rows.InOutRow.{InOutRow}
 use Rattle.cpu_step.specs.declared.rows.InOutRow.TheVariants as io
 use Rattle.cpu_step.specs.declared.rows.ConsoleRow.{ConsoleRow}
 use Rattle.cpu_step.specs.declared.rows.ConsoleRow.TheVariants as console
@@ -26,11 +23,11 @@ use Rattle.cpu_step.specs.declared.rows.CardRow.TheVariants as cards
 use Rattle.cpu_step.specs.declared.rows.DiskRow.{DiskRow}
 use Rattle.cpu_step.specs.declared.rows.DiskRow.TheVariants as disk
 use Rattle.disk_1311.specs.declared.DiskKind.TheVariants.{Rdgn, Cdgn, Rdn, Cdn, Wdgn, Wdn}
-use Rattle.cpu_step.specs.declared.rows.Uses.{Uses}
-use Rattle.cpu_step.specs.declared.rows.Uses.TheVariants.{First}
+use Rattle.branch_ops.specs.declared.fields.Uses.{Uses}
+use Rattle.branch_ops.specs.declared.fields.Uses.TheVariants.{First}
 use Rattle.cpu_step.specs.declared.rows.Found.{Found}
-use Rattle.cpu_step.specs.Rows.{is_device, branch_row, row_of_op, uses_by, stores_told, with_columns, row_by_table, row_by, row_of_code, instruction_row, takes_odd}
-use Rattle.branch_ops.specs.Operands.{tested_code}
+use Rattle.cpu_step.specs.Rows.{is_device, branch_row, row_of_op, uses_by_device, stores_told, with_columns, row_by_table, row_by, row_of_code, instruction_row, takes_odd}
+use Rattle.branch_ops.specs.Operands.{tested_code, uses_by}
 use Rattle.table_arith.specs.declared.Kind.TheVariants.{Add, Subtract}
 use Rattle.cpu_step.specs.Checks.{wants_odd}
 use Rattle.cpu_step.proofs.RowStores.{RowKeeps, any_row, row_column, row_keeps}
@@ -93,8 +90,8 @@ WhereFound (Err why) = ⊤
 -- whether an instruction's columns fit a row of it
 abbrev row_fits : InstructionRow → Row → Bool
 row_fits i r =
-    only_where (takes_odd r) (wants_odd (uses_by (uses_of i) r))
-    && (only_where (is_b r) (only_goes (uses_by (uses_of i) r) (stores_told (stores_of i) r)) && leaves (stores_told (stores_of i) r) (row_column r))
+    only_where (takes_odd r) (wants_odd (uses_by (uses_of i) (uses_by_device r)))
+    && (only_where (is_b r) (only_goes (uses_by (uses_of i) (uses_by_device r)) (stores_told (stores_of i) r)) && leaves (stores_told (stores_of i) r) (row_column r))
 
 -- of one device or another
 module _ (instruction : InstructionRow) where
@@ -103,7 +100,7 @@ module _ (instruction : InstructionRow) where
 
   fitting : (r : Row) → row_fits instruction r ≡ true → Fitting (Ok r)
   fitting r e =
-      let uses : Uses = uses_by (uses_of instruction) r in
+      let uses : Uses = uses_by (uses_of instruction) (uses_by_device r) in
       let stores : MayStore = stores_told (stores_of instruction) r in
       let first = both (only_where (takes_odd r) (wants_odd uses)) (only_where (is_b r) (only_goes uses stores) && leaves stores (row_column r)) e in
       let second = both (only_where (is_b r) (only_goes uses stores)) (leaves stores (row_column r)) first.1 in
@@ -172,10 +169,6 @@ abbrev fits_all : InstructionRow → Bool
 fits_all i = all_fit i (rows_of (op_of i))
 
 -- a branch's columns, whatever it tests
-uses_tested : (u : OperandUse) (b : BranchOp) (code : ℕ) → uses_by u (row.Branch b 0) ≡ uses_by u (row.Branch b code)
-uses_tested operands.FirstByDevice b code = refl
-uses_tested u b code = refl
-
 stores_tested : (m : MayStore) (b : BranchOp) (code : ℕ) → stores_told m (row.Branch b 0) ≡ stores_told m (row.Branch b code)
 stores_tested column.ByDevice b code = refl
 stores_tested m b code = refl
@@ -188,7 +181,7 @@ module _ (i : InstructionRow) (d : Instr) where
   branch_fits : (b : BranchOp) → row_fits i (row.Branch b 0) ≡ true → Fitting i (branch_row b d)
   branch_fits b e =
       fitting i (row.Branch b (tested_code d))
-      (rw (← uses_tested (uses_of i) b (tested_code d), ← stores_tested (stores_of i) b (tested_code d), ← b_tested b (tested_code d)) e)
+      (rw (← stores_tested (stores_of i) b (tested_code d), ← b_tested b (tested_code d)) e)
 
   row_fitting : (o : Op) → all_fit i (rows_of o) ≡ true → Fitting i (row_of_op o d)
   row_fitting op.A e = (all_fitting i (rows_of op.A) e).0

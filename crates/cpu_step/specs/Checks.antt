@@ -17,9 +17,9 @@ use Rattle.cpu_step.specs.declared.rows.Found.{Found}
 use Rattle.cpu_step.specs.declared.rows.Row.{Row}
 use Rattle.cpu_step.specs.declared.rows.Row.TheVariants as row
 use Rattle.cpu_step.specs.declared.rows.InOutRow.TheVariants as io
-use Rattle.cpu_step.specs.declared.rows.Uses.{Uses}
-use Rattle.cpu_step.specs.declared.rows.Uses.TheVariants.{Both, OddBoth, Immediate, First, OddFirst, Neither}
-use Rattle.cpu_step.specs.declared.rows.Operands.{Operands}
+use Rattle.branch_ops.specs.declared.fields.Uses.{Uses}
+use Rattle.branch_ops.specs.declared.fields.Uses.TheVariants.{Both, OddBoth, Immediate, First, OddFirst, Neither}
+use Rattle.branch_ops.specs.declared.fields.Operands.{Operands}
 use Rattle.cpu_step.specs.declared.machine.Mode.{Mode}
 use Rattle.cpu_step.specs.declared.machine.Mode.TheVariants.{Stopped}
 use Rattle.cpu_step.specs.declared.checks.CheckPart.{CheckPart}

@@ -10,16 +10,16 @@ use Rattle.instruction_table.specs.declared.BranchOp.{BranchOp}
 use Rattle.instruction_table.specs.declared.BranchOp.TheVariants.{B}
 use Rattle.cpu_step.specs.declared.rows.Row.{Row}
 use Rattle.cpu_step.specs.declared.rows.Row.TheVariants as row
-use Rattle.cpu_step.specs.declared.rows.Uses.{Uses}
-use Rattle.cpu_step.specs.declared.rows.Uses.TheVariants.{Neither}
+use Rattle.branch_ops.specs.declared.fields.Uses.{Uses}
+use Rattle.branch_ops.specs.declared.fields.Uses.TheVariants.{Neither}
 use Rattle.cpu_step.specs.declared.rows.Found.{Found}
-use Rattle.cpu_step.specs.declared.rows.Operands.{Operands}
-use Rattle.cpu_step.specs.declared.fields.Fields.{Fields}
+use Rattle.branch_ops.specs.declared.fields.Operands.{Operands}
+use Rattle.branch_ops.specs.declared.fields.Fields.{Fields}
 use Rattle.cpu_step.specs.declared.memo.Known.{Known}
 use Rattle.cpu_step.specs.declared.memo.Known.TheVariants as known
 use Rattle.cpu_step.specs.Rows.{instruction_row, takes_odd}
 use Rattle.cpu_step.specs.Act.{operands}
-use Rattle.cpu_step.specs.Fields.{fields_used, operands_from, operands_at, HoldOperands}
+use Rattle.branch_ops.specs.Fields.{fields_used, operands_from, operands_at, HoldOperands}
 
 -- the instruction that twelve cells are at ir, ten in one word and two in another
 abbrev pub instr_at : ℕ → ℕ → ℕ → Instr

@@ -5,10 +5,9 @@ ghost use Rattle.digit_core.specs.Size.{size};
 use crate::ends::{
     branch_outcome, card_outcome, core_outcome, disk_outcome, keyboard_outcome, typing_outcome,
 };
-use crate::fields::Fields;
 use crate::machine::{Machine, Outcome};
-use crate::rows::{CardRow, ConsoleRow, DiskRow, InOutRow, Operands, Row};
-use branch_ops::{BranchOperands, Regs, branch_known};
+use crate::rows::{CardRow, ConsoleRow, DiskRow, InOutRow, Row};
+use branch_ops::{BranchOperands, Fields, Operands, Regs, branch_known};
 use feature_ops::do_feature;
 use field_moves::make_move;
 use instruction_table::BranchOp;
@@ -17,8 +16,7 @@ use table_arith::{add, compare};
 
 impl<const M: u32> Machine<M> {
     ghost use Rattle.branch_ops.specs.Registers.{on_at};
-    ghost use Rattle.cpu_step.specs.Act.{on_console, on_cards, on_disk};
-    ghost use Rattle.cpu_step.specs.Fields.{act_over};
+    ghost use Rattle.cpu_step.specs.Act.{act_over, on_console, on_cards, on_disk};
     ghost use Rattle.cpu_step.specs.Rows.{takes_odd, unit_takes_odd, console_takes_odd, cards_take_odd};
     ghost use Rattle.cpu_step.specs.Machine.{Acts, BranchActs, RowActs, UnitActs};
 

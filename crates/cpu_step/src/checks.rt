@@ -7,10 +7,11 @@ ghost use Rattle.cpu_step.specs.Rows.{instruction_row};
 ghost use Rattle.cpu_step.specs.Checks.{action_cell, cell_over_nine, chain_end, check_part, fetched_part, field_after, field_length, first_unread, is_over_nine, nearer, operands_or_part, over_nine_down, over_nine_in_control, over_nine_in_step, p_or_part, p_part, part_of, q_or_part, q_part, q_used, unfetched_cell, wants_odd, worked_part};
 ghost use Rattle.addr_indirect.specs.Fetch.{fetch};
 
-use crate::rows::{Found, InOutRow, Operands, Row, Uses, row_of};
+use crate::rows::{Found, InOutRow, Row, row_of};
 use addr_indirect::{
     Instr, LOWEST_UNITS, Stop, decimal_at, fetch, immediate_q, p_operand, q_operand, read_at,
 };
+use branch_ops::{Operands, Uses};
 use digit_core::Core;
 
 /// Which part of an instruction a check stop is about, by core as it stands at the stop.

@@ -1,12 +1,14 @@
 // Further fields that were read before.
-ghost use Rattle.std.specs.Prelude.{◌≡◌, ◌+◌, ◌*◌, ◌<◌, ◌≤◌, length, IfOk, IfSome, Ok, true};
+ghost use Rattle.std.specs.Prelude.{◌≡◌, ◌+◌, ◌*◌, ◌<◌, ◌≤◌, ◌%◌, length, IfOk, IfSome, Ok, true};
 ghost use Rattle.digit_core.specs.Size.{IsSize, size};
 ghost use Rattle.addr_indirect.specs.Operand.{further};
+ghost use Rattle.branch_ops.specs.Fields.{operand_from, operands_from};
 ghost use Rattle.cpu_step.specs.Further.{FieldIsKnown, LeadsTo};
 
 use crate::checks::five_digits;
 use crate::memo::{mask_below, mask_from};
 use addr_indirect::{LOWEST_UNITS, Stop, decimal_at, further};
+use branch_ops::{FieldKind, Fields, Operands};
 use digit_core::Core;
 use std::alloc::{AllocError, Global};
 
@@ -145,10 +147,53 @@ impl<const M: u32> FurtherFields<M> {
         Ok(FurtherFields { entries, followed })
     }
 
+    // Works out the operands of the instruction at `ir` as `Fields::operands` does, by what is known of further fields.
+    #[inline(always)]
+    pub(crate) fn operands(
+        &mut self,
+        fields: Fields,
+        core: &Core<M>,
+        ir: u32,
+    ) -> Result<Operands, Stop>
+        requires { ir + 12 ≤ size M }
+        ensures from { result ≡ operands_from fields core.now ir }
+        ensures p { IfOk result (λ o. o.p < size M) }
+        ensures q { IfOk result (λ o. o.q < size M) }
+        ensures odd { fields.odd ≡ true → IfOk result (λ o. o.p % 2 ≡ 1) }
+    {
+        let p = self.operand(core, ir, fields.p_kind, fields.p)?;
+        let q = self.operand(core, ir, fields.q_kind, fields.q)?;
+        if fields.odd && p % 2 == 0 {
+            Err(Stop::EvenAlpha)
+        } else {
+            Ok(Operands { p, q })
+        }
+    }
+
+    // The operand that a field of this kind with the number `v` holds, of the instruction at `ir`.
+    #[inline(always)]
+    fn operand(&mut self, core: &Core<M>, ir: u32, kind: FieldKind, v: u32) -> Result<u32, Stop>
+        requires { ir + 12 ≤ size M }
+        ensures is { result ≡ operand_from core.now ir kind v }
+        ensures in_core { IfOk result (λ a. a < size M) }
+    {
+        core.size_law();
+        match kind {
+            FieldKind::Chain => {
+                if v >= LOWEST_UNITS && v < core.size() {
+                    self.further(core, v)
+                } else {
+                    Err(Stop::Address)
+                }
+            }
+            _ => kind.operand(core, ir, v),
+        }
+    }
+
     // The address that an operand comes to whose first field leads to a further one, whose units are at `at`. It is no call of its own: what
     // it answers would have to be put into memory first, to be taken apart again.
     #[inline(always)]
-    pub(crate) fn further(&mut self, core: &Core<M>, at: u32) -> Result<u32, Stop>
+    fn further(&mut self, core: &Core<M>, at: u32) -> Result<u32, Stop>
         requires field { 4 ≤ at }
         requires in_core { at < size M }
         ensures is { result ≡ further core.now at }

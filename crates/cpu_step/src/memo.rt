@@ -2,13 +2,13 @@
 ghost use Rattle.std.specs.Prelude.{ℕ, ◌≡◌, ◌+◌, ◌≤◌, ◌<◌, ◌%◌, ◌^◌, length, IfOk, false, true};
 ghost use Rattle.digit_core.specs.Size.{IsSize, size};
 ghost use Rattle.digit_core.specs.Packed.{six, ten_across};
-ghost use Rattle.cpu_step.specs.Fields.{is_chained, operands_from};
+ghost use Rattle.branch_ops.specs.Fields.{is_chained, operands_from};
 ghost use Rattle.cpu_step.specs.Known.{AreKnown, IsKnown, IsPlace, IsRow, two_from};
 
-use crate::fields::{Fields, decoded_row};
 use crate::further::FurtherFields;
-use crate::rows::{Operands, Row};
+use crate::rows::{Row, decoded_row};
 use addr_indirect::{Instr, Stop, good_digits};
+use branch_ops::{Fields, Operands};
 use digit_core::{Core, ten_across};
 use instruction_table::BranchOp;
 use std::alloc::{AllocError, Global};
@@ -185,7 +185,7 @@ impl<const M: u32> Memo<M> {
         ensures q { IfOk result (λ o. o.q < size M) }
         ensures odd { fields.odd ≡ true → IfOk result (λ o. o.p % 2 ≡ 1) }
     {
-        fields.operands_by(&mut self.further, core, ir)
+        self.further.operands(fields, core, ir)
     }
 }
 

@@ -3,12 +3,11 @@ ghost use Rattle.std.specs.Prelude.{◌≡◌, ◌<◌, ◌≤◌, ◌+◌, ◌%
 ghost use Rattle.digit_core.specs.Size.{size};
 
 use crate::ends::{check_stop, core_outcome, show_parity};
-use crate::fields::decoded_row;
 use crate::machine::{Machine, Mode, Outcome, Turned};
 use crate::memo::Known;
-use crate::rows::{InOutRow, Operands, Row};
+use crate::rows::{InOutRow, Row, decoded_row};
 use addr_indirect::{Stop, fetch};
-use branch_ops::{BranchOperands, Regs};
+use branch_ops::{BranchOperands, Operands, Regs};
 use feature_ops::do_feature;
 use field_moves::make_move;
 use instruction_table::BranchOp;

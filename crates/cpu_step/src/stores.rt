@@ -4,11 +4,11 @@ ghost use Rattle.digit_core.specs.Size.{size};
 ghost use Rattle.addr_indirect.specs.Fetch.{fetch};
 ghost use Rattle.cpu_step.specs.Stores.{IsBelow, StepStores, fetched_stores, stores_at, stores_by};
 
-use crate::fields::decoded_row;
 use crate::machine::Machine;
 use crate::memo::Known;
-use crate::rows::Operands;
+use crate::rows::decoded_row;
 use addr_indirect::{Instr, fetch};
+use branch_ops::Operands;
 use digit_core::Core;
 use instruction_table::MayStore;
 

@@ -8,14 +8,14 @@ returns-in-Ok-operands-clause-within g c =
     let p = c.in-Ok-operands.ensures.p in
     let q = c.in-Ok-operands.ensures.q in
     let is = c.in-Ok.ensures in
-    let works = sym (c.in-Ok-operands.ensures.is is.uses c.args.i.now c.requires.fetched is.fields_are) in
+    let works = sym (c.in-Ok-operands.ensures.is is.uses c.in-Ok.fields.stores c.args.i.now c.requires.fetched is.fields_are) in
     rw c.stores_by.ensures (row_step _ _ c.args.i.now c.requires.fetched _ is.row_is c.in-Ok-operands.o works (omega arith) (omega arith))
 
 pub returns-in-Err-operands-clause-within : goal.returns-in-Err-operands-clause-within
 returns-in-Err-operands-clause-within g c =
     let is = c.in-Ok.ensures in
     operands_none _ _ c.args.i.now c.requires.fetched _ is.row_is c.in-Err-operands.field-0
-    (sym (c.in-Err-operands.ensures.is is.uses c.args.i.now c.requires.fetched is.fields_are))
+    (sym (c.in-Err-operands.ensures.is is.uses c.in-Ok.fields.stores c.args.i.now c.requires.fetched is.fields_are))
 
 pub returns-in-Err-clause-within : goal.returns-in-Err-clause-within
 returns-in-Err-clause-within g c = row_none _ _ c.args.i.now c.requires.fetched c.in-Err.field-0 c.in-Err.ensures
@@ -23,7 +23,7 @@ returns-in-Err-clause-within g c = row_none _ _ c.args.i.now c.requires.fetched 
 pub returns-in-Ok-operands-clause-is : goal.returns-in-Ok-operands-clause-is
 returns-in-Ok-operands-clause-is g c =
     let is = c.in-Ok.ensures in
-    let works = sym (c.in-Ok-operands.ensures.is is.uses c.args.i.now c.requires.fetched is.fields_are) in
+    let works = sym (c.in-Ok-operands.ensures.is is.uses c.in-Ok.fields.stores c.args.i.now c.requires.fetched is.fields_are) in
     rw (c.stores_by.ensures, is.row_is, works) refl
 
 pub returns-in-Ok-operands-clause-below : goal.returns-in-Ok-operands-clause-below
@@ -32,5 +32,5 @@ returns-in-Ok-operands-clause-below g c = rw c.stores_by.ensures (stores_below c
 pub returns-in-Err-operands-clause-is : goal.returns-in-Err-operands-clause-is
 returns-in-Err-operands-clause-is g c =
     let is = c.in-Ok.ensures in
-    let works = sym (c.in-Err-operands.ensures.is is.uses c.args.i.now c.requires.fetched is.fields_are) in
+    let works = sym (c.in-Err-operands.ensures.is is.uses c.in-Ok.fields.stores c.args.i.now c.requires.fetched is.fields_are) in
     rw (is.row_is, works) refl

@@ -1,6 +1,6 @@
 -- What the instruction comes to says what its step may store.
 use Rattle.std.proofs.Common.{refl, arith}
-use Rattle.cpu_step.specs.Fields.{operands_at}
+use Rattle.branch_ops.specs.Fields.{operands_at}
 use Rattle.cpu_step.proofs.StepStores.{row_says, known_step, stores_below}
 use Rattle.cpu_step.proofs.Quick.{in_size}
 use Rattle.cpu_step.proofs.machine.Machine.stores.Goals as goal

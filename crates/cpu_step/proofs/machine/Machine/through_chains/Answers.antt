@@ -1,6 +1,6 @@
 -- A row is carried out over what its fields hold; what is not known is decoded.
 use Rattle.std.proofs.Common.{refl, sym, ◌∙◌, arith}
-use Rattle.cpu_step.specs.Fields.{act_over}
+use Rattle.cpu_step.specs.Act.{act_over}
 use Rattle.cpu_step.specs.Known.{found_with, uses_at}
 use Rattle.cpu_step.specs.Step.{instruction}
 use Rattle.cpu_step.proofs.Shown.{acts_as, row_acts, held_act}

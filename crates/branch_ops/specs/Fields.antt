@@ -7,23 +7,17 @@ use Rattle.addr_indirect.specs.declared.Stop.{Stop}
 use Rattle.addr_indirect.specs.declared.Stop.TheVariants as stop
 use Rattle.addr_indirect.specs.declared.Instr.{Instr}
 use Rattle.addr_indirect.specs.Steps.{◌>>=◌}
-use Rattle.addr_indirect.specs.Fetch.{part}
+use Rattle.addr_indirect.specs.Fetch.{fetch, part}
 use Rattle.addr_indirect.specs.Operand.{further}
 use Rattle.addr_indirect.specs.Operands.{immediate_q}
 use Rattle.instruction_table.specs.declared.MayStore.{MayStore}
-use Rattle.traces.specs.Trace.{Trace}
-use Rattle.traces.specs.Break.{Break}
-use Rattle.cpu_step.specs.declared.rows.Row.{Row}
-use Rattle.cpu_step.specs.declared.rows.Uses.{Uses}
-use Rattle.cpu_step.specs.declared.rows.Uses.TheVariants as uses
-use Rattle.cpu_step.specs.declared.rows.Operands.{Operands}
-use Rattle.cpu_step.specs.declared.fields.FieldKind.{FieldKind}
-use Rattle.cpu_step.specs.declared.fields.FieldKind.TheVariants.{Immediate, Address, Chain, Undecimal}
-use Rattle.cpu_step.specs.declared.fields.Fields.{Fields}
-use Rattle.cpu_step.specs.Operands.{operands}
-use Rattle.cpu_step.specs.State.{State}
-use Rattle.cpu_step.specs.Effects.{Effect}
-use Rattle.cpu_step.specs.Act.{Next, act_with}
+use Rattle.branch_ops.specs.declared.fields.Uses.{Uses}
+use Rattle.branch_ops.specs.declared.fields.Uses.TheVariants as uses
+use Rattle.branch_ops.specs.declared.fields.Operands.{Operands}
+use Rattle.branch_ops.specs.declared.fields.FieldKind.{FieldKind}
+use Rattle.branch_ops.specs.declared.fields.FieldKind.TheVariants.{Immediate, Address, Chain, Undecimal}
+use Rattle.branch_ops.specs.declared.fields.Fields.{Fields}
+use Rattle.branch_ops.specs.Operands.{operands}
 
 -- the value of an instruction's digit, None where it is over 9
 abbrev pub decimal_part : Instr → ℕ → Option ℕ
@@ -119,6 +113,7 @@ operands_at ir f = record { p = f.p; q = number_or_own ir f.q_kind f.q }
 abbrev pub HoldOperands : Uses → List ℕ → ℕ → Fields → Type 0
 HoldOperands u core ir f = operands_from f core ir ≡ operands u core ir
 
--- the action of a row over the operands that fields hold
-abbrev pub act_over : Row → Fields → State → Trace Effect Next Break
-act_over r f s = act_with r (operands_from f s.core s.regs.ir) s
+-- what these came to is what the operands come to of each instruction that stands at ir in this core and has these fields
+abbrev pub ComeTo : Fields → List ℕ → ℕ → Result Operands Stop → Type 0
+ComeTo f core ir result =
+    (u : Uses) (stores : MayStore) (i : Instr) → fetch core ir ≡ Ok i → f ≡ fields_used u stores i → result ≡ operands u core ir
