@@ -3,4 +3,4 @@ mod Sound
 pub mod Sums
 pub mod Flags
 pub mod Turns
-pub mod Lasts
+pub mod Words

@@ -2,8 +2,8 @@
 use Rattle.std.proofs.Common.{◌≡◌, ◌∙◌, ◌*◌, ◌-◌, length, refl, arith}
 use Rattle.digit_core.specs.Written.{core_with_word}
 use Rattle.digit_core.proofs.Writing.{length_written}
-use Rattle.feature_ops.proofs.Turns.{rest_done, rest_on, fill_next}
-use Rattle.feature_ops.proofs.Lasts.{fill_last, fills_first, fills_second, upper_good, lower_good}
+use Rattle.feature_ops.proofs.Turns.{rest_done, rest_on, fill_next, fill_last}
+use Rattle.feature_ops.proofs.Words.{fills_first, fills_second, upper_good, lower_good}
 use Rattle.feature_ops.proofs.Sound.{fill_good}
 use Rattle.feature_ops.proofs.fill.Goals as goal
 
@@ -27,7 +27,7 @@ returns-then-second g c =
     let core1 = core_with_word c.loop-olds.core (2 * (c.loop-olds.pairs - f.count)) (2 * f.count) f.cells in
     let long1 : length core1 ≡ length c.loop-olds.core = length_written c.loop-olds.core (2 * (c.loop-olds.pairs - f.count)) (2 * f.count) f.cells in
     let going =
-    rest_on _ _ _ _ _ _ (fill_next f.count c.loop-olds.core c.loop-olds.pairs c.loop-olds.left f.cells (omega arith) (omega arith) s1.apart (s1.on c.if-first.false))
+    rest_on _ _ _ _ _ _ (fill_next c.loop-olds.core c.loop-olds.pairs c.loop-olds.left f.count f.cells (omega arith) (omega arith) s1.apart (s1.on c.if-first.false))
     c.loop-olds.invariant.going in
     rw (c.put_digits-then-are_still_apart.ensures, c.put_digits.ensures)
     (rest_done _ _ _ _ _ _ going
@@ -45,7 +45,7 @@ loop-olds-preserved-then-are_still_apart g c =
     let core1 = core_with_word c.loop-olds.core (2 * (c.loop-olds.pairs - f.count)) (2 * f.count) f.cells in
     let long1 : length core1 ≡ length c.loop-olds.core = length_written c.loop-olds.core (2 * (c.loop-olds.pairs - f.count)) (2 * f.count) f.cells in
     let going =
-    rest_on _ _ _ _ _ _ (fill_next f.count c.loop-olds.core c.loop-olds.pairs c.loop-olds.left f.cells (omega arith) (omega arith) s1.apart (s1.on c.if-first.false))
+    rest_on _ _ _ _ _ _ (fill_next c.loop-olds.core c.loop-olds.pairs c.loop-olds.left f.count f.cells (omega arith) (omega arith) s1.apart (s1.on c.if-first.false))
     c.loop-olds.invariant.going in
     rw (c.put_digits-then-are_still_apart.ensures, c.put_digits.ensures)
     (record {
@@ -55,7 +55,7 @@ loop-olds-preserved-then-are_still_apart g c =
       some = omega arith;
       most = omega arith;
       going = rest_on _ _ _ _ _ _
-          (fill_next t.count core1 (c.loop-olds.pairs - f.count) (c.loop-olds.left - f.count) t.cells (omega arith) (omega arith) s2.apart (s2.on c.if-second.false)) going;
+          (fill_next core1 (c.loop-olds.pairs - f.count) (c.loop-olds.left - f.count) t.count t.cells (omega arith) (omega arith) s2.apart (s2.on c.if-second.false)) going;
     })
 
 pub loop-olds-preserved : goal.loop-olds-preserved
@@ -71,7 +71,7 @@ loop-olds-preserved g c =
       some = omega arith;
       most = omega arith;
       going = rest_on _ _ _ _ _ _
-          (fill_next n c.loop-olds.core c.loop-olds.pairs c.loop-olds.left c.turn_filled-first.result.cells (omega arith) (omega arith) s.apart (s.on c.if-first.false))
+          (fill_next c.loop-olds.core c.loop-olds.pairs c.loop-olds.left n c.turn_filled-first.result.cells (omega arith) (omega arith) s.apart (s.on c.if-first.false))
           c.loop-olds.invariant.going;
     })
 

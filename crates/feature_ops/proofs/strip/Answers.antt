@@ -1,8 +1,7 @@
 -- Turns and the last one, or the digits that are left.
 use Rattle.std.proofs.Common.{◌∙◌, ◌-◌, arith}
 use Rattle.digit_core.proofs.Writing.{length_written}
-use Rattle.feature_ops.proofs.Turns.{rest_done, rest_on, strip_next}
-use Rattle.feature_ops.proofs.Lasts.{strip_last}
+use Rattle.feature_ops.proofs.Turns.{rest_done, rest_on, strip_next, strip_last}
 use Rattle.feature_ops.proofs.Sound.{strip_good}
 use Rattle.feature_ops.proofs.strip.Goals as goal
 
@@ -19,7 +18,7 @@ loop-turn-preserved g c =
       some = omega arith;
       most = omega arith;
       going = rest_on _ _ _ _ _ _
-          (strip_next n c.loop-turn.core c.loop-turn.pairs c.loop-turn.left c.in-Some.turn.cells (omega arith) (omega arith) s.apart (s.on c.if-turn.false)) c.loop-turn.invariant.going;
+          (strip_next c.loop-turn.core c.loop-turn.pairs c.loop-turn.left n c.in-Some.turn.cells (omega arith) (omega arith) s.apart (s.on c.if-turn.false)) c.loop-turn.invariant.going;
     })
 
 pub returns-then-turn : goal.returns-then-turn

@@ -4,8 +4,7 @@ use Rattle.digit_core.specs.Cell.{has_flag}
 use Rattle.digit_core.specs.Packed.{six}
 use Rattle.digit_core.proofs.Sixes.{six_of_high}
 use Rattle.feature_ops.proofs.Flags.{joined_unflagged}
-use Rattle.feature_ops.proofs.Turns.{upper, odd_digits, odd_joined}
-use Rattle.feature_ops.proofs.Lasts.{strips_of}
+use Rattle.feature_ops.proofs.Words.{upper, odd_digits, odd_joined, strips_of}
 use Rattle.feature_ops.proofs.fives.next_stripped.Goals as goal
 
 highest : (w : ℕ) → ((j : ℕ) → j < 9 → has_flag (six (w / 2 ^ 30) j) ≡ false) → has_flag (six w 9) ≡ false
