@@ -1,5 +1,5 @@
 -- One statement after another is placed.
-use Rattle.std.proofs.Common.{◌≡◌, ℕ, ℤ, pos, negsuc, nat_abs, ◌+◌, ◌≤◌, Bool, true, false, not, ◌&&◌, List, [], ◌∷◌, ◌++◌, length, map, replicate, refl, sym, ap, ◌∙◌, Option, Some, None, option_map, Result, Ok, Err, nat_le, int_le, arith}
+use Rattle.std.proofs.Common.{◌≡◌, ℕ, ℤ, pos, negsuc, nat_abs, ◌≤◌, Bool, true, false, not, ◌&&◌, List, [], ◌∷◌, ◌++◌, length, map, replicate, refl, sym, ap, ◌∙◌, Option, Some, None, option_map, Result, Ok, Err, nat_le, int_le, arith}
 use Rattle.std.specs.Prelude.{if◌then◌else◌}
 use Rattle.std.proofs.lemmas.List.{map-append, append-nil}
 use Rattle.std.proofs.lemmas.Bool.Decides.{nat_tests}
@@ -14,7 +14,7 @@ use Rattle.sps_pass_one.specs.declared.place.Place.{Place}
 use Rattle.sps_pass_one.specs.Faults.{least}
 use Rattle.sps_pass_one.specs.declared.ask.Reading.TheVariants.{Expression}
 use Rattle.sps_pass_one.specs.Measure.{answer, in_bounds, lacks, read_as, part_at}
-use Rattle.sps_pass_one.specs.Layout.{first, state_before_next, counts_if, ends_if, head_after, is_end, operation_of, PassStep, pass_step, statements, statements_of, statement_place, statement_places, symbols_of, Refusal}
+use Rattle.sps_pass_one.specs.Layout.{first, state_before_next, counts_if, ends_if, is_end, operation_of, PassStep, pass_step, statements, statements_of, statement_place, statement_places, symbols_of, Refusal}
 use Rattle.sps_pass_one.specs.Walk.{WalkText, walk_of, one_further, walk_past}
 use Rattle.sps_pass_one.proofs.Following.{Follows, place_is, next, next_done, next_state}
 use Rattle.sps_pass_two.specs.Operands.{operand_ask, value_or_0}

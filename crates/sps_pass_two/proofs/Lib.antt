@@ -2,6 +2,7 @@ pub mod Flags
 pub mod Listed
 pub mod Chains
 pub mod GoodDigits
+pub mod NoFaults
 pub mod Lengths
 pub mod Refusing
 pub mod Unbroken

@@ -1,15 +1,14 @@
 -- What a source that breaks no rule comes to: an image, and a program.
-use Rattle.std.proofs.Common.{◌≡◌, ℕ, ◌+◌, ◌≤◌, Bool, List, [], ◌∷◌, length, map, inl, inr, refl, sym, ap, ◌∙◌, Option, None, option_map, arith, All}
+use Rattle.std.proofs.Common.{◌≡◌, ℕ, ◌+◌, ◌≤◌, List, [], ◌∷◌, length, map, sym, ap, ◌∙◌, Option, None, option_map, arith, All}
 use Rattle.std.proofs.lemmas.List.{length-map}
 use Rattle.digit_core.specs.declared.Digit.{Digit}
 use Rattle.sps_expr.specs.Symbol.{SymbolEntry}
-use Rattle.sps_expr.specs.Earlier.{AreEarlier}
 use Rattle.sps_scan.specs.Statement.{statement_of}
 use Rattle.sps_pass_one.specs.declared.fault.Fault.{Fault}
 use Rattle.sps_pass_one.specs.declared.place.Place.{Place}
 use Rattle.sps_pass_one.specs.Faults.{least}
 use Rattle.sps_pass_one.specs.Laws.{AllKnown}
-use Rattle.sps_pass_one.specs.Layout.{State, first, state_before_next, PassStep, pass_step, statements, statements_of, lines_of_source, statement_place, symbols_of}
+use Rattle.sps_pass_one.specs.Layout.{State, first, state_before_next, PassStep, statements, statements_of, lines_of_source, statement_place, symbols_of}
 use Rattle.sps_pass_one.proofs.KnownSymbols.{known}
 use Rattle.sps_pass_one.specs.Walk.{WalkText}
 use Rattle.sps_pass_two.specs.Broken.{end_faults, refusal_of}
@@ -18,28 +17,22 @@ use Rattle.sps_pass_two.specs.Kept.{IsBelow, IsImage, IsProgram, AreKept}
 use Rattle.sps_pass_two.specs.Assembled.{PlacedText, placed_text, field_of, fields_of, start_in}
 use Rattle.sps_pass_two.proofs.GoodDigits.{outcome_good}
 use Rattle.sps_pass_two.proofs.Lengths.{lies_above}
-use Rattle.sps_pass_two.proofs.Refusing.{faults_at, past_last}
+use Rattle.sps_pass_two.proofs.Refusing.{past_last}
 use Rattle.sps_pass_two.proofs.Unbroken.{AllUnbroken, all_unbroken, few_statements, is_start}
 use Rattle.sps_pass_two.proofs.Overlay.{image_is}
 use Rattle.sps_pass_two.proofs.Apart.{are_pieces}
 use Rattle.sps_pass_two.proofs.Kept.{are_kept, below_of}
-use Rattle.sps_pass_two.proofs.Holding.{length_cells, AllGoodRuns, good_cells, LiesAbove, AllAbove, above_pieces}
+use Rattle.sps_pass_two.proofs.Holding.{length_cells, AllGoodRuns, good_cells, AllAbove, above_pieces}
 use Rattle.sps_pass_two.proofs.Assembling.{Assembling, all_fields, all_placed, start_known, not_refused, whole_none}
 
 good_fields : (symbols : List SymbolEntry) (positions : ℕ) (xs : List PassStep) → AllGoodRuns (map (field_of symbols positions) xs)
 good_fields symbols positions [] = tt
 good_fields symbols positions (x ∷ xs) = (outcome_good x.before.head symbols (statement_place x) x.before.ended x.before.number x.text positions, good_fields symbols positions xs)
 
-lies : (symbols : List SymbolEntry) (positions : ℕ) (st : State) (line : List ℕ) → AreEarlier st.symbols symbols st.number → faults_at symbols positions (pass_step st line) ≡ [] → LiesAbove (field_of symbols positions (pass_step st line))
-lies symbols positions st line known unbroken some = elim (lies_above symbols positions (pass_step st line) known refl unbroken) [
-  | inl none ↦ absurd (let k = ap length none in omega (arith, k))
-  | inr above ↦ above
-]
-
 above_fields : (symbols : List SymbolEntry) (positions : ℕ) (st : State) (lines : List (List ℕ)) → AllKnown symbols (statements st lines) → AllUnbroken symbols positions (statements st lines) → AllAbove (map (field_of symbols positions) (statements st lines))
 unfolding statements
 above_fields symbols positions st [] known unbroken = tt
-above_fields symbols positions st (line ∷ lines) known unbroken = (lies symbols positions st line known.0 unbroken.0, above_fields symbols positions (state_before_next st (statement_of line)) lines known.1 unbroken.1)
+above_fields symbols positions st (line ∷ lines) known unbroken = (lies_above symbols positions st line known.0 unbroken.0, above_fields symbols positions (state_before_next st (statement_of line)) lines known.1 unbroken.1)
 
 -- the cells of a source that breaks no rule
 module _ (positions : ℕ) (source : List ℕ) (good : refusal_of positions source ≡ None) (size : positions ≤ 60000) (cells : List (Option Digit)) (are : cells ≡ cells_from (fields_of positions source) 0 positions) where

@@ -21,6 +21,7 @@ use Rattle.sps_pass_one.specs.Layout.{State, first, state_before_next, behind, c
 use Rattle.sps_pass_two.specs.Operands.{operand_ask, value_or_0}
 use Rattle.sps_pass_two.specs.Broken.{is_bad_column, is_card, is_long, line_faults, label_faults, anywhere, is_bad_start, start_faults, outcome_by_operation, statement_outcome, end_faults, refusal_of}
 use Rattle.sps_pass_two.specs.Assembled.{start_of, start_in}
+use Rattle.sps_pass_two.proofs.NoFaults.{nil_parts, not_broken, negated}
 use Rattle.sps_pass_two.proofs.Refusing.{faults_at, ends_of}
 
 -- the least of some faults is none where there are none
@@ -51,15 +52,6 @@ unbroken_from symbols positions number (x ∷ xs) ends e =
     let k : number + suc (length xs) ≡ number + 1 + length xs = omega arith in
     ((least_none (faults_at symbols positions x) two.0, rest.0), rw k rest.1)
 
--- parts of faults that there are none of
-nil_parts : (xs ys : List Fault) → xs ++ ys ≡ [] → (xs ≡ []) × (ys ≡ [])
-nil_parts [] ys e = (refl, e)
-nil_parts (x ∷ xs) ys e = absurd cc
-
-not_broken : (test : Bool) (rule : Rule) → broken_if test rule ≡ [] → test ≡ false
-not_broken true rule e = absurd cc
-not_broken false rule e = refl
-
 -- the source breaks no rule: no statement does, and one of them is a DEND
 module _ (positions : ℕ) (source : List ℕ) (good : refusal_of positions source ≡ None) where
   both : AllUnbroken (symbols_of source) positions (statements_of source) × (first_refusal (1 + length (statements_of source)) (ends_of source) ≡ None)
@@ -68,16 +60,12 @@ module _ (positions : ℕ) (source : List ℕ) (good : refusal_of positions sour
   pub all_unbroken : AllUnbroken (symbols_of source) positions (statements_of source)
   all_unbroken = both.0
 
-  is_true : (b : Bool) → not b ≡ false → b ≡ true
-  is_true true e = refl
-  is_true false e = absurd cc
-
   last_none : least None (end_faults (behind first (lines_of_source source)).ended) ≡ None
   unfolding first_refusal
   last_none = (none_later (1 + length (statements_of source)) (least None (end_faults (behind first (lines_of_source source)).ended)) None both.1).0
 
   pub is_ended : (behind first (lines_of_source source)).ended ≡ true
-  is_ended = is_true _ (not_broken (not (behind first (lines_of_source source)).ended) NoEnd (least_none _ last_none))
+  is_ended = negated _ (not_broken (not (behind first (lines_of_source source)).ended) NoEnd (least_none _ last_none))
 
 -- THE NUMBER of the statements
 number_unbroken : (symbols : List SymbolEntry) (positions : ℕ) (x : PassStep) → faults_at symbols positions x ≡ [] → (x.before.number == 20001) ≡ false
@@ -115,10 +103,6 @@ pub record IsStart (positions start : ℕ) : Type 0 where
 or_parts : (a b : Bool) → (a || b) ≡ false → (a ≡ false) × (b ≡ false)
 or_parts true b e = absurd cc
 or_parts false b e = (refl, e)
-
-negated : (b : Bool) → not b ≡ false → b ≡ true
-negated true e = refl
-negated false e = absurd cc
 
 even_of : (n : ℕ) → (n % 2 == 1) ≡ false → n % 2 ≡ 0
 even_of n e = let k : n % 2 < 2 = omega arith in grind (arith, nat_tests)
