@@ -167,7 +167,7 @@ module _ (m low high : ℕ) (good : TwelveAreGood low high) (core : List ℕ) (i
         (subst (λ (x : MayStore). ComesToRow core ir low high (rows.Branch B b.code) x (operands_at ir b.f)) columns.1 (row_comes (rows.Branch B b.code) b.f b.settled there)))
 
   pub comes : (k : Known) → IsKnown (instr_at 0 low high) (size m) k → ComesTo core ir low high k
-  comes (known.Goes p) is = record {
+  comes (known.B p) is = record {
     to_b = λ v e.
         let same : p ≡ v = cc in
         rw (← same) (b_comes p is);
@@ -210,7 +210,7 @@ module _ (m low high : ℕ) (good : TwelveAreGood low high) (core : List ℕ) (i
           odd = row_odd (instr_at ir low high) row f there;
         });
   }
-  comes known.Other is = record {
+  comes known.Nothing is = record {
     to_b = λ v e. absurd (cc);
     to_row = λ row f e. absurd (cc);
     to_branch = λ op f code e. absurd (cc);

@@ -122,7 +122,7 @@ module _ (m ir i low_mask high_mask : ℕ) (place : IsPlace m ir i low_mask high
   comes_of x y is_low is_high k known = comes_by k (rw (is_low, is_high) known)
 
 -- of what is no instruction, or isn't known, nothing is said
-pub nothing : (core : List ℕ) (ir low high : ℕ) → ComesTo core ir low high known.Other
+pub nothing : (core : List ℕ) (ir low high : ℕ) → ComesTo core ir low high known.Nothing
 nothing core ir low high =
     record {
       to_b = λ p e. cc;

@@ -64,11 +64,11 @@ pub record IsB (i : Instr) (n p : ℕ) : Type 0 where
 
 -- what an instruction comes to by its digits, in a core of n cells
 abbrev pub IsKnown : Instr → ℕ → Known → Type 0
-IsKnown i n (known.Goes p) = IsB i n p
+IsKnown i n (known.B p) = IsB i n p
 IsKnown i n (known.Row row f) = IsRow i row f × AreSettled n f
 IsKnown i n (known.Branch op f code) = IsRow i (row.Branch op code) f × AreSettled n f
 IsKnown i n (known.Chained row f) = IsRow i row f
-IsKnown i n known.Other = ⊤
+IsKnown i n known.Nothing = ⊤
 
 -- the operands that what is found uses
 abbrev pub uses_in : Result Found Stop → Uses
@@ -112,7 +112,7 @@ pub record ComesToChained (core : List ℕ) (ir low high : ℕ) (row : Row) (f :
 
 -- what the instruction at ir, which these two words hold, comes to; of any other nothing is said
 pub record ComesTo (core : List ℕ) (ir low high : ℕ) (k : Known) : Type 0 where
-  pub to_b : (p : ℕ) → k ≡ known.Goes p → ComesToB core ir low high p
+  pub to_b : (p : ℕ) → k ≡ known.B p → ComesToB core ir low high p
   pub to_row : (row : Row) (f : Fields) → k ≡ known.Row row f
       → ComesToRow core ir low high row f.stores (operands_at ir f)
   pub to_branch : (op : BranchOp) (f : Fields) (code : ℕ) → k ≡ known.Branch op f code

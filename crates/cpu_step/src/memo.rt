@@ -17,7 +17,7 @@ use std::alloc::{AllocError, Global};
 #[derive(Clone, Copy)]
 pub(crate) enum Known {
     // B, to P.
-    Goes {
+    B {
         p: u32,
     },
     // Another row that is no branch, and its fields.
@@ -36,8 +36,8 @@ pub(crate) enum Known {
         row: Row,
         fields: Fields,
     },
-    // What has a bad cell, no row, or an operand that won't do.
-    Other,
+    // Nothing that is kept: there is a bad cell, no row, or an operand that won't do.
+    Nothing,
 }
 
 // Twelve cells at their address, and what they come to. They are kept as the two words of core that hold them, under masks that leave out
@@ -71,7 +71,7 @@ impl<const M: u32> KnownEntry<M> {
             low: 0,
             high_mask: TEN_CELLS,
             high: 0,
-            known: Known::Other,
+            known: Known::Nothing,
         }
     }
 
@@ -198,7 +198,7 @@ fn decode<const M: u32>(low: u64, high: u64, core: &Core<M>, ir: u32) -> Known
 {
     match good_digits(low, high) {
         Some(cells) => known_by(&Instr { at: 0, cells }, core, ir),
-        None => Known::Other,
+        None => Known::Nothing,
     }
 }
 
@@ -218,7 +218,7 @@ fn known_by<const M: u32>(i: &Instr, core: &Core<M>, ir: u32) -> Known
                 known_row(row, fields, i, core, ir)
             }
         }
-        Err(_) => Known::Other,
+        Err(_) => Known::Nothing,
     }
 }
 
@@ -233,11 +233,11 @@ fn known_row<const M: u32>(row: Row, fields: Fields, i: &Instr, core: &Core<M>, 
     match fields.operands(core, ir) {
         Ok(o) => match row {
             Row::Branch { op, code } => match op {
-                BranchOp::B => Known::Goes { p: o.p },
+                BranchOp::B => Known::B { p: o.p },
                 _ => Known::Branch { op, fields, code },
             },
             _ => Known::Row { row, fields },
         },
-        Err(_) => Known::Other,
+        Err(_) => Known::Nothing,
     }
 }

@@ -34,7 +34,7 @@ impl<const M: u32> Machine<M> {
         self.core.size_law();
         let ir = self.regs.ir;
         match self.memo.look(&self.core, ir) {
-            Known::Goes { p } => self.settle(Outcome::Goes {
+            Known::B { p } => self.settle(Outcome::Goes {
                 regs: Regs {
                     ir: p,
                     ir2: self.regs.ir2,
@@ -42,7 +42,7 @@ impl<const M: u32> Machine<M> {
             }),
             Known::Row { row, fields } => self.row_step(row, fields.at(ir), host),
             Known::Branch { op, fields, code } => self.branch_step(op, fields.at(ir).tested(code)),
-            Known::Chained { .. } | Known::Other => self.chained_step(host),
+            Known::Chained { .. } | Known::Nothing => self.chained_step(host),
         }
     }
 

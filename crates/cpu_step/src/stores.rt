@@ -50,10 +50,10 @@ impl<const M: u32> Machine<M> {
         self.core.size_law();
         let ir = self.regs.ir;
         match self.memo.look(&self.core, ir) {
-            Known::Goes { .. } => Stores::Nothing,
+            Known::B { .. } => Stores::Nothing,
             Known::Row { fields, .. } => stores_by(fields.stores, fields.at(ir)),
             Known::Branch { fields, .. } => stores_by(fields.stores, fields.at(ir)),
-            Known::Chained { .. } | Known::Other => decoded_stores(&self.core, ir),
+            Known::Chained { .. } | Known::Nothing => decoded_stores(&self.core, ir),
         }
     }
 }

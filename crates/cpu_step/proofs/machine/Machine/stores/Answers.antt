@@ -5,14 +5,14 @@ use Rattle.cpu_step.proofs.StepStores.{row_says, known_step, stores_below}
 use Rattle.cpu_step.proofs.Quick.{in_size}
 use Rattle.cpu_step.proofs.machine.Machine.stores.Goals as goal
 
-pub returns-in-Goes-clause-is : goal.returns-in-Goes-clause-is
-returns-in-Goes-clause-is g c =
-    let says = row_says _ _ _ _ _ _ _ (c.in-Goes.ensures.comes.to_b c.in-Goes.p refl) in
+pub returns-in-B-clause-is : goal.returns-in-B-clause-is
+returns-in-B-clause-is g c =
+    let says = row_says _ _ _ _ _ _ _ (c.in-B.ensures.comes.to_b c.in-B.p refl) in
     says
 
-pub returns-in-Goes-clause-within : goal.returns-in-Goes-clause-within
-returns-in-Goes-clause-within g c =
-    let steps = known_step _ _ _ _ _ _ _ (c.in-Goes.ensures.comes.to_b c.in-Goes.p refl) in
+pub returns-in-B-clause-within : goal.returns-in-B-clause-within
+returns-in-B-clause-within g c =
+    let steps = known_step _ _ _ _ _ _ _ (c.in-B.ensures.comes.to_b c.in-B.p refl) in
     steps
 
 pub at-requires : goal.at-requires

@@ -1,4 +1,4 @@
--- Core begins at 00000, and nothing is said of `Other`.
+-- Core begins at 00000, and nothing is said of `Nothing`.
 use Rattle.std.proofs.Common.{refl, arith}
 use Rattle.cpu_step.proofs.Placed.{six_whole, nothing}
 use Rattle.cpu_step.proofs.memo.KnownEntry.none.Goals as goal
