@@ -13,12 +13,13 @@ use Rattle.cpu_step.specs.Machine.{Frames}
 use Rattle.cpu_step.specs.Outside.{all_outside}
 use Rattle.cpu_step.proofs.Outside.{seen_by, cut_seen, load_cut_seen, first_effects, did_between}
 use Rattle.cpu_step.proofs.InputsTaken.{HasTaken, taken_none, taken_on, cut_taken, load_cut_taken}
+use Rattle.operator_script.specs.declared.script.Action.TheVariants as action
 use Rattle.operator_script.specs.Turn.{RunPlace, Turning, Acted, Stepped, Ended, turn, last_within, IsCutTurn, in_step, in_load}
 use Rattle.operator_script.specs.Run.{RunState, place_of}
 use Rattle.operator_script.specs.TurnEvents.{turning_events, turn_events}
 use Rattle.operator_script.proofs.LastPlace.{last_on}
 use Rattle.operator_script.proofs.Running.{place_is}
-use Rattle.operator_script.proofs.TurnEventLemmas.{TurnTakes, turn_takes, TurnDoes, turn_does, DoesPart, due_load}
+use Rattle.operator_script.proofs.TurnEventLemmas.{TurnTakes, turn_takes, TurnDoes, turn_does, DoesPart, due_front}
 use Rattle.console_debug.specs.Session.{Course, Act, Line, Turn, nth_place, turns_from, place_as_seen, act_events, session_events, turns_in}
 use Rattle.console_debug.proofs.Courses.{last_next}
 
@@ -136,7 +137,7 @@ module _ (w : World) where
   cut_does limit p q (in_load done rest due is here) =
       let effects = (load_trace (state_for_load p.state)).effects in
       let part = all_outside (take done effects) in
-      let first = subst (IsFirstPart part) (due_load w p.state.mode p.steps p.script p.state due) (first_effects w done effects) in
+      let first = subst (IsFirstPart part) (due_front p.state.mode p.steps p.script action.Load p.state due) (first_effects w done effects) in
       record {
         done = part;
         seen = ap (λ (x : RunPlace). seen_by w x.state) here ∙ load_cut_seen w done p.state;

@@ -1,29 +1,20 @@
 -- The places of a course by their numbers.
-use Rattle.std.proofs.Common.{◌≡◌, ℕ, zero, suc, ◌+◌, ◌-◌, ◌≤◌, ◌==◌, nat_lt, Bool, true, false, List, [], ◌∷◌, if◌then◌else◌, refl, sym, ◌∙◌, ap, subst, arith}
+use Rattle.std.proofs.Common.{◌≡◌, ℕ, zero, suc, ◌+◌, ◌-◌, ◌≤◌, nat_lt, Bool, true, false, if◌then◌else◌, refl, sym, ◌∙◌, ap, subst, arith}
 use Rattle.std.specs.Prelude.{Some, ⊤}
 use Rattle.std.proofs.lemmas.Bool.Decides.{nat_tests}
-use Rattle.cpu_step.specs.declared.machine.Mode.{Mode}
-use Rattle.cpu_step.specs.declared.machine.Mode.TheVariants as mode
-use Rattle.operator_script.specs.declared.script.ScriptLine.{ScriptLine}
-use Rattle.operator_script.specs.Turn.{RunPlace, Turning, Acted, Stepped, Ended, turn, place_after, last_within, place_after_action, place_after_step, is_due, by_mode, by_script, can_go, ending_of}
-use Rattle.operator_script.proofs.LastPlace.{on, last_on}
+use Rattle.operator_script.specs.Turn.{RunPlace, Turning, Acted, Stepped, Ended, turn, place_after, last_within}
+use Rattle.operator_script.proofs.Turning.{turn_holds}
+use Rattle.operator_script.proofs.LastPlace.{on, last_on, last_from}
 use Rattle.console_debug.specs.Session.{Course, nth_place}
 
 -- the turn that led to a place
 abbrev pub led_by : Bool → RunPlace → Turning
 led_by by_step p = if by_step then Stepped p else Acted p
 
-last_on_led : (limit n : ℕ) (p q : RunPlace) (t : Turning) → on limit n t ≡ Some q → ((r : RunPlace) → place_after limit n r ≡ Some q → last_within limit n r ≡ q)
-    → elim t [ Acted r ↦ last_within limit n r | Stepped r ↦ last_within limit n r | Ended how ↦ p ] ≡ q
-last_on_led limit n p q (Acted r) here rest = rest r here
-last_on_led limit n p q (Stepped r) here rest = rest r here
-last_on_led limit n p q (Ended how) here rest = cc
-
 -- a place that is reached by some turns is the last within as many
 pub after_last : (limit n : ℕ) (p q : RunPlace) → place_after limit n p ≡ Some q → last_within limit n p ≡ q
-unfolding place_after last_within
-after_last limit zero p q here = cc
-after_last limit (suc n) p q here = last_on_led limit n p q (turn limit p) here (λ r from. after_last limit n r q from)
+unfolding last_within
+after_last limit n p q here = let e : n ≡ n + 0 = omega arith in ap (λ j. last_within limit j p) e ∙ last_from n 0 limit p q here
 
 next_on : (limit n : ℕ) (p : RunPlace) (t : Turning) → turn limit p ≡ t → ((q : RunPlace) → last_within limit (suc n) q ≡ last_on limit 0 (last_within limit n q) (turn limit (last_within limit n q)))
     → last_on limit (suc n) p t ≡ last_on limit 0 (last_on limit n p t) (turn limit (last_on limit n p t))
@@ -94,34 +85,8 @@ Counts p (Acted q) = q.steps ≡ p.steps
 Counts p (Stepped q) = q.steps ≡ p.steps + 1
 Counts p (Ended how) = ⊤
 
-running_counts : (limit : ℕ) (p : RunPlace) (b : Bool) → Counts p (if b then Ended (ending_of p.state) else Stepped (place_after_step p))
-running_counts limit p true = tt
-running_counts limit p false = refl
-
-mode_counts : (limit : ℕ) (p : RunPlace) (m : Mode) → Counts p (by_mode limit p m)
-mode_counts limit p mode.Running = running_counts limit p (p.steps == limit)
-mode_counts limit p (mode.Halted at) = tt
-mode_counts limit p (mode.Stopped kind at) = tt
-mode_counts limit p mode.Empty = tt
-mode_counts limit p mode.NoKeys = tt
-mode_counts limit p (mode.Jam u n) = tt
-mode_counts limit p mode.Faulted = tt
-
-line_counts : (limit : ℕ) (p : RunPlace) (line : ScriptLine) (rest : List ScriptLine) (b : Bool) → Counts p (if b then Acted (place_after_action p line.action rest) else by_mode limit p p.state.mode)
-line_counts limit p line rest true = refl
-line_counts limit p line rest false = mode_counts limit p p.state.mode
-
-script_counts : (limit : ℕ) (p : RunPlace) (lines : List ScriptLine) → Counts p (by_script limit p lines)
-script_counts limit p [] = mode_counts limit p p.state.mode
-script_counts limit p (line ∷ rest) = line_counts limit p line rest (is_due line.due p.steps p.state.mode)
-
-going_counts : (limit : ℕ) (p : RunPlace) (b : Bool) → Counts p (if b then by_script limit p p.script else Ended (ending_of p.state))
-going_counts limit p true = script_counts limit p p.script
-going_counts limit p false = tt
-
 pub turn_counts : (limit : ℕ) (p : RunPlace) → Counts p (turn limit p)
-unfolding turn
-turn_counts limit p = going_counts limit p (can_go p.state.mode)
+turn_counts limit p = turn_holds limit p (Counts p) (λ a is. refl) (λ below. refl) tt
 
 less_false : (a b : ℕ) → b ≡ a → false ≡ nat_lt a b
 less_false a b same = grind (arith, nat_tests)

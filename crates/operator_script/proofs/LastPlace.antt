@@ -1,5 +1,5 @@
 -- The places of a run: it comes to its last one within the turns that are counted, and that ends it.
-use Rattle.std.proofs.Common.{◌≡◌, ℕ, zero, suc, ◌≤◌, refl, ◌∙◌, ap, arith}
+use Rattle.std.proofs.Common.{◌≡◌, ℕ, zero, suc, ◌+◌, ◌≤◌, refl, ◌∙◌, ap, arith}
 use Rattle.std.specs.Prelude.{Option, Some, None}
 use Rattle.operator_script.specs.declared.turns.Ending.{Ending}
 use Rattle.operator_script.specs.Turn.{RunPlace, Turning, Acted, Stepped, Ended, turn, place_after, last_within, last_place, most_turns, ending_of, IsLast}
@@ -72,3 +72,16 @@ turn_on limit (suc n) first p q t reached is next = turn_by limit n p q t (turn 
     turn_by limit n p q t (Acted r) reached is next rest = rest r reached
     turn_by limit n p q t (Stepped r) reached is next rest = rest r reached
     turn_by limit n p q t (Ended how) reached is next rest = cc
+
+-- the last place, from a place on the way
+pub last_from : (n more limit : ℕ) (p q : RunPlace) → place_after limit n p ≡ Some q → last_within limit (n + more) p ≡ last_within limit more q
+unfolding place_after last_within
+last_from zero more limit p q reached = let same : p ≡ q = cc in let e : 0 + more ≡ more = omega arith in rw (e, same) refl
+last_from (suc n) more limit p q reached =
+    let e : suc n + more ≡ suc (n + more) = omega arith in
+    ap (λ (j : ℕ). last_within limit j p) e ∙ by_turn (λ x. last_from n more limit x q) (turn limit p) reached
+  where
+    by_turn : ((x : RunPlace) → place_after limit n x ≡ Some q → last_within limit (n + more) x ≡ last_within limit more q) → (t : Turning) → on limit n t ≡ Some q → last_on limit (n + more) p t ≡ last_within limit more q
+    by_turn rest (Acted x) is = rest x is
+    by_turn rest (Stepped x) is = rest x is
+    by_turn rest (Ended how) is = cc

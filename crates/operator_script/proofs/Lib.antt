@@ -7,5 +7,4 @@ pub mod Moving
 pub mod LastPlace
 pub mod Running
 pub mod TurnEventLemmas
-pub mod Texts
 pub mod NextStep

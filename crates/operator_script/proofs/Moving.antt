@@ -99,7 +99,7 @@ module _ (m limit : ℕ) (old : RunState m) (before : Seen) where
 
   pub full : is_faulted old.machine.mode ≡ false → can_go old.machine.mode ≡ true → NoneDue → is_running old.machine.mode ≡ true → old.steps ≡ limit → Turns m limit (moment_at m old before) (moment_at m old before) (end.Ended ending.Limit)
   full sound go due running at_limit =
-      ends_with ending.Limit sound (at_limit_is old.machine.mode old.machine.regs.ir running) (turn_full limit some_place (counts_same old.steps limit at_limit) due go) (λ limits. at_limit) (λ goes. due)
+      ends_with ending.Limit sound (at_limit_is old.machine.mode old.machine.regs.ir running) (turn_full limit some_place (counts_same old.steps limit at_limit) due running go) (λ limits. at_limit) (λ goes. due)
 
   module _ (new : RunState m) (after : Seen) where
     -- a step is made

@@ -8,7 +8,7 @@ use Rattle.operator_script.specs.declared.script.Action.{Action}
 use Rattle.operator_script.specs.declared.script.ScriptLine.{ScriptLine}
 use Rattle.operator_script.specs.Turn.{RunPlace, turn, can_go, is_step, due_action}
 use Rattle.operator_script.specs.Run.{IsStepNext}
-use Rattle.operator_script.proofs.Turning.{turn_acts, turn_steps, turn_full, turn_still, turn_over, counts_same, counts_differ}
+use Rattle.operator_script.proofs.Turning.{turning_by, turn_is, counts_same, counts_differ}
 
 -- a Boolean that is turned twice
 pub twice : (b : Bool) → b ≡ not (not b)
@@ -25,23 +25,24 @@ running_goes (mode.Jam u n) running = cc
 running_goes mode.Faulted running = cc
 
 module _ (limit : ℕ) (p : RunPlace) where
-  still_next : (goes : Bool) (due : Option Action) → can_go p.state.mode ≡ goes → due_action p.state.mode p.steps p.script ≡ due → is_running p.state.mode ≡ false → is_step (turn limit p) ≡ false
-  still_next false due go is still = ap is_step (turn_over limit p go)
-  still_next true None go is still = ap is_step (turn_still limit p still is go)
-  still_next true (Some a) go is still = ap is_step (turn_acts limit p a go is)
+  -- a mode that runs can go
+  next_by : (goes : Bool) (due : Option Action) (running full : Bool) → (running ≡ true → goes ≡ true) → is_step (turning_by p goes due running full) ≡ (running && (not full && is_none due))
+  next_by false due false full go = refl
+  next_by false due true full go = let none = go refl in cc
+  next_by true (Some a) false full go = refl
+  next_by true (Some a) true false go = refl
+  next_by true (Some a) true true go = refl
+  next_by true None false full go = refl
+  next_by true None true false go = refl
+  next_by true None true true go = refl
 
-  running_next : (full : Bool) (due : Option Action) → (p.steps == limit) ≡ full → due_action p.state.mode p.steps p.script ≡ due → is_running p.state.mode ≡ true → is_step (turn limit p) ≡ (not full && is_none due)
-  running_next true None at_limit is running = ap is_step (turn_full limit p at_limit is (running_goes p.state.mode running))
-  running_next false None below is running = ap is_step (turn_steps limit p running below is (running_goes p.state.mode running))
-  running_next true (Some a) at_limit is running = ap is_step (turn_acts limit p a (running_goes p.state.mode running) is)
-  running_next false (Some a) below is running = ap is_step (turn_acts limit p a (running_goes p.state.mode running) is)
-
-  next_by : (running : Bool) → is_running p.state.mode ≡ running → is_step (turn limit p) ≡ (running && (not (p.steps == limit) && is_none (due_action p.state.mode p.steps p.script)))
-  next_by false still = still_next (can_go p.state.mode) (due_action p.state.mode p.steps p.script) refl refl still
-  next_by true running = running_next (p.steps == limit) (due_action p.state.mode p.steps p.script) refl refl running
+  step_next : is_step (turn limit p) ≡ (is_running p.state.mode && (not (p.steps == limit) && is_none (due_action p.state.mode p.steps p.script)))
+  step_next =
+      ap is_step (turn_is limit p)
+      ∙ next_by (can_go p.state.mode) (due_action p.state.mode p.steps p.script) (is_running p.state.mode) (p.steps == limit) (running_goes p.state.mode)
 
 next_is : (limit : ℕ) (m : Mode) (steps : ℕ) (lines : List ScriptLine) → IsStepNext limit m steps lines (is_running m && (not (steps == limit) && is_none (due_action m steps lines)))
-next_is limit m steps lines p mode_is steps_is lines_is = next_by limit p (is_running p.state.mode) refl ∙ rw (mode_is, steps_is, lines_is) refl
+next_is limit m steps lines p mode_is steps_is lines_is = step_next limit p ∙ rw (mode_is, steps_is, lines_is) refl
 
 never : (b : Bool) → (b && false) ≡ false
 never true = refl

@@ -1,11 +1,10 @@
 -- What the turns of a run do outside, which cards and lines they take, and a run that is cut short.
-use Rattle.std.proofs.Common.{◌≡◌, ℕ, zero, suc, ◌≤◌, Bool, true, false, List, [], ◌∷◌, ◌++◌, take, refl, sym, ◌∙◌, ap, subst, arith, if◌then◌else◌, ◌==◌}
+use Rattle.std.proofs.Common.{◌≡◌, ℕ, zero, suc, ◌≤◌, Bool, true, false, List, [], ◌∷◌, ◌++◌, take, refl, sym, ◌∙◌, ap, subst, arith, if◌then◌else◌}
 use Rattle.std.specs.Prelude.{Some, None}
 use Rattle.outside_io.specs.World.{World}
 use Rattle.outside_io.specs.Events.{Event, after_events, IsFirstPart}
 use Rattle.outside_io.proofs.EventLemmas.{after_append, first_on, first_more}
 use Rattle.cpu_step.specs.declared.machine.Mode.{Mode}
-use Rattle.cpu_step.specs.declared.machine.Mode.TheVariants as mode
 use Rattle.cpu_step.specs.State.{State}
 use Rattle.cpu_step.specs.Step.{instruction}
 use Rattle.cpu_step.specs.Load.{state_for_load, load_trace}
@@ -15,51 +14,24 @@ use Rattle.cpu_step.proofs.InputsTaken.{HasTaken, taken_none, taken_on, step_tak
 use Rattle.operator_script.specs.declared.script.Action.{Action}
 use Rattle.operator_script.specs.declared.script.Action.TheVariants as action
 use Rattle.operator_script.specs.declared.script.ScriptLine.{ScriptLine}
-use Rattle.operator_script.specs.declared.turns.Ending.{Ending}
-use Rattle.operator_script.specs.Turn.{RunPlace, Turning, Acted, Stepped, Ended, turn, state_after_action, place_after_action, place_after_step, by_mode, by_script, can_go, is_due, due_action, place_after, last_within, most_turns, ending_of, IsCutTurn, in_step, in_load, IsOnTheWay}
+use Rattle.operator_script.specs.Turn.{RunPlace, Turning, Acted, Stepped, Ended, turn, state_after_action, place_after_action, place_after_step, is_due, due_action, place_after, last_within, most_turns, IsCutTurn, in_step, in_load, IsOnTheWay}
 use Rattle.operator_script.specs.TurnEvents.{step_events, action_events, front_events, events_within, run_events}
 use Rattle.operator_script.proofs.Actions.{of_action}
-use Rattle.operator_script.proofs.Turning.{Follows, turn_follows}
+use Rattle.operator_script.proofs.Turning.{Follows, turn_follows, turn_holds}
 use Rattle.operator_script.proofs.LastPlace.{on, last_on}
 
--- what holds of every front line that acts, of every step and of every end holds of every turn
-module _ (Holds : RunPlace → Turning → Type 0) (acts : (p : RunPlace) (line : ScriptLine) (rest : List ScriptLine) → p.script ≡ line ∷ rest → Holds p (Acted (place_after_action p line.action rest)))
-    (steps : (p : RunPlace) → Holds p (Stepped (place_after_step p))) (ends : (p : RunPlace) (how : Ending) → Holds p (Ended how)) where
-  limit_holds : (p : RunPlace) (b : Bool) → Holds p (if b then Ended (ending_of p.state) else Stepped (place_after_step p))
-  limit_holds p true = ends p (ending_of p.state)
-  limit_holds p false = steps p
+-- what a turn does, and those behind it
+abbrev pub turned_events : ℕ → ℕ → RunPlace → Turning → List Event
+turned_events limit n p t = elim t [ Acted q ↦ front_events p.script p.state ++ events_within limit n q | Stepped q ↦ step_events p ++ events_within limit n q | Ended how ↦ [] ]
 
-  mode_holds : (limit : ℕ) (p : RunPlace) (m : Mode) → Holds p (by_mode limit p m)
-  mode_holds limit p mode.Running = limit_holds p (p.steps == limit)
-  mode_holds limit p (mode.Halted at) = ends p (ending_of p.state)
-  mode_holds limit p (mode.Stopped kind at) = ends p (ending_of p.state)
-  mode_holds limit p mode.Empty = ends p (ending_of p.state)
-  mode_holds limit p mode.NoKeys = ends p (ending_of p.state)
-  mode_holds limit p (mode.Jam u n) = ends p (ending_of p.state)
-  mode_holds limit p mode.Faulted = ends p (ending_of p.state)
-
-  due_holds : (limit : ℕ) (p : RunPlace) (line : ScriptLine) (rest : List ScriptLine) → p.script ≡ line ∷ rest → (b : Bool) → Holds p (if b then Acted (place_after_action p line.action rest) else by_mode limit p p.state.mode)
-  due_holds limit p line rest is true = acts p line rest is
-  due_holds limit p line rest is false = mode_holds limit p p.state.mode
-
-  script_holds : (limit : ℕ) (p : RunPlace) (lines : List ScriptLine) → p.script ≡ lines → Holds p (by_script limit p lines)
-  script_holds limit p [] is = mode_holds limit p p.state.mode
-  script_holds limit p (line ∷ rest) is = due_holds limit p line rest is (is_due line.due p.steps p.state.mode)
-
-  going_holds : (limit : ℕ) (p : RunPlace) (b : Bool) → Holds p (if b then by_script limit p p.script else Ended (ending_of p.state))
-  going_holds limit p true = script_holds limit p p.script refl
-  going_holds limit p false = ends p (ending_of p.state)
-
-  turn_holds : (limit : ℕ) (p : RunPlace) → Holds p (turn limit p)
-  unfolding turn
-  turn_holds limit p = going_holds limit p (can_go p.state.mode)
-
-abbrev events_on : ℕ → ℕ → RunPlace → Turning → List Event
-events_on limit n p t = elim t [ Acted q ↦ front_events p.script p.state ++ events_within limit n q | Stepped q ↦ step_events p ++ events_within limit n q | Ended how ↦ [] ]
-
--- what the front line does is what its action does
-front_is : (p : RunPlace) (line : ScriptLine) (rest : List ScriptLine) → p.script ≡ line ∷ rest → action_events line.action p.state ≡ front_events p.script p.state
-front_is p line rest is = ap (λ (lines : List ScriptLine). front_events lines p.state) (sym is)
+-- what the front line does is what the action does that is due
+pub due_front : (m : Mode) (steps : ℕ) (lines : List ScriptLine) (a : Action) (s : State) → due_action m steps lines ≡ Some a → action_events a s ≡ front_events lines s
+due_front m steps [] a s due = cc
+due_front m steps (line ∷ rest) a s due = by_due (is_due line.due steps m) due
+  where
+    by_due : (b : Bool) → (if b then Some line.action else None) ≡ Some a → action_events a s ≡ action_events line.action s
+    by_due true due = let e : line.action ≡ a = cc in ap (λ (x : Action). action_events x s) (sym e)
+    by_due false due = cc
 
 -- THE CARDS AND THE LINES THAT ARE TAKEN
 
@@ -74,12 +46,12 @@ TurnTakes p (Ended how) = Unit {0}
 
 pub turn_takes : (limit : ℕ) (p : RunPlace) → TurnTakes p (turn limit p)
 turn_takes limit p =
-    turn_holds TurnTakes
-    (λ p line rest is. subst (HasTaken p.state (state_after_action line.action p.state)) (front_is p line rest is) (acted_takes line.action p.state))
-    (λ p. step_taken p.state) (λ p how. tt) limit p
+    turn_holds limit p (TurnTakes p)
+    (λ a is. subst (HasTaken p.state (state_after_action a p.state)) (due_front p.state.mode p.steps p.script a p.state is) (acted_takes a p.state))
+    (λ below. step_taken p.state) tt
 
 last_on_takes : (limit n : ℕ) (p : RunPlace) (t : Turning) → TurnTakes p t → ((q : RunPlace) → HasTaken q.state (last_within limit n q).state (events_within limit n q))
-    → HasTaken p.state (last_on limit n p t).state (events_on limit n p t)
+    → HasTaken p.state (last_on limit n p t).state (turned_events limit n p t)
 last_on_takes limit n p (Acted q) takes rest = taken_on (front_events p.script p.state) (events_within limit n q) p.state q.state (last_within limit n q).state takes (rest q)
 last_on_takes limit n p (Stepped q) takes rest = taken_on (step_events p) (events_within limit n q) p.state q.state (last_within limit n q).state takes (rest q)
 last_on_takes limit n p (Ended how) takes rest = taken_none p.state p.state refl refl
@@ -104,15 +76,15 @@ module _ (w : World) where
 
   pub turn_does : (limit : ℕ) (p : RunPlace) → TurnDoes p (turn limit p)
   turn_does limit p =
-      turn_holds TurnDoes (λ p line rest is. acted_seen line.action p.state ∙ ap (after_events (seen_by w p.state)) (front_is p line rest is))
-      (λ p. step_seen w p.state) (λ p how. tt) limit p
+      turn_holds limit p (TurnDoes p) (λ a is. acted_seen a p.state ∙ ap (after_events (seen_by w p.state)) (due_front p.state.mode p.steps p.script a p.state is))
+      (λ below. step_seen w p.state) tt
 
   -- one thing after another
   seen_on : (ds es : List Event) (s t u : State) → seen_by w t ≡ after_events (seen_by w s) ds → seen_by w u ≡ after_events (seen_by w t) es → seen_by w u ≡ after_events (seen_by w s) (ds ++ es)
   seen_on ds es s t u first second = second ∙ ap (λ (x : World). after_events x es) first ∙ sym (after_append ds es (seen_by w s))
 
   last_on_does : (limit n : ℕ) (p : RunPlace) (t : Turning) → TurnDoes p t → ((q : RunPlace) → seen_by w (last_within limit n q).state ≡ after_events (seen_by w q.state) (events_within limit n q))
-      → seen_by w (last_on limit n p t).state ≡ after_events (seen_by w p.state) (events_on limit n p t)
+      → seen_by w (last_on limit n p t).state ≡ after_events (seen_by w p.state) (turned_events limit n p t)
   last_on_does limit n p (Acted q) does rest = seen_on (front_events p.script p.state) (events_within limit n q) p.state q.state (last_within limit n q).state does (rest q)
   last_on_does limit n p (Stepped q) does rest = seen_on (step_events p) (events_within limit n q) p.state q.state (last_within limit n q).state does (rest q)
   last_on_does limit n p (Ended how) does rest = refl
@@ -139,32 +111,23 @@ module _ (w : World) where
     part = first_on before d.done all d.part;
   }
 
-  -- where the Load key is the action that is due, the front line does what it does
-  pub due_load : (m : Mode) (steps : ℕ) (lines : List ScriptLine) (s : State) → due_action m steps lines ≡ Some action.Load → load_events s ≡ front_events lines s
-  due_load m steps [] s due = cc
-  due_load m steps (line ∷ rest) s due = by_due (is_due line.due steps m) due
-    where
-      by_due : (b : Bool) → (if b then Some line.action else None) ≡ Some action.Load → load_events s ≡ action_events line.action s
-      by_due true due = let e : line.action ≡ action.Load = cc in ap (λ (a : Action). action_events a s) (sym e)
-      by_due false due = cc
-
   cut_by : (limit n : ℕ) (p q : RunPlace) → IsCutTurn limit p q → DoesPart p.state q.state (events_within limit (suc n) p)
   unfolding events_within
   cut_by limit n p q (in_step done is here) = record {
     done = all_outside (take done (instruction p.state).effects);
     seen = ap (λ (x : RunPlace). seen_by w x.state) here ∙ cut_seen w done p.state;
     taken = subst (λ (x : RunPlace). HasTaken p.state x.state (all_outside (take done (instruction p.state).effects))) (sym here) (cut_taken done p.state);
-    part = subst (λ (t : Turning). IsFirstPart (all_outside (take done (instruction p.state).effects)) (events_on limit n p t)) (sym is)
+    part = subst (λ (t : Turning). IsFirstPart (all_outside (take done (instruction p.state).effects)) (turned_events limit n p t)) (sym is)
         (first_more (all_outside (take done (instruction p.state).effects)) (step_events p) (events_within limit n (place_after_step p)) (first_effects w done (instruction p.state).effects));
   }
   cut_by limit n p q (in_load done rest due is here) =
       let first : List Event = all_outside (take done (load_trace (state_for_load p.state)).effects) in
-      let loads : load_events p.state ≡ front_events p.script p.state = due_load p.state.mode p.steps p.script p.state due in
+      let loads : load_events p.state ≡ front_events p.script p.state = due_front p.state.mode p.steps p.script action.Load p.state due in
       record {
         done = first;
         seen = ap (λ (x : RunPlace). seen_by w x.state) here ∙ load_cut_seen w done p.state;
         taken = subst (λ (x : RunPlace). HasTaken p.state x.state first) (sym here) (load_cut_taken done p.state);
-        part = subst (λ (t : Turning). IsFirstPart first (events_on limit n p t)) (sym is)
+        part = subst (λ (t : Turning). IsFirstPart first (turned_events limit n p t)) (sym is)
             (first_more first (front_events p.script p.state) (events_within limit n (place_after_action p action.Load rest))
             (subst (IsFirstPart first) loads (first_effects w done (load_trace (state_for_load p.state)).effects)));
       }
@@ -183,12 +146,12 @@ module _ (w : World) where
   way_on limit zero k first p q (Acted r) is does takes less h reached rest = let l = less.less in absurd (omega arith)
   way_on limit (suc n) k first p q (Acted r) is does takes less h reached rest =
       let l = less.less in
-      subst (λ (t : Turning). DoesPart first.state q.state (events_on limit n first t)) (sym is)
+      subst (λ (t : Turning). DoesPart first.state q.state (turned_events limit n first t)) (sym is)
       (part_behind (front_events first.script first.state) (events_within limit n r) first.state r.state q.state does takes (rest r n less.within (omega arith) reached))
   way_on limit zero k first p q (Stepped r) is does takes less h reached rest = let l = less.less in absurd (omega arith)
   way_on limit (suc n) k first p q (Stepped r) is does takes less h reached rest =
       let l = less.less in
-      subst (λ (t : Turning). DoesPart first.state q.state (events_on limit n first t)) (sym is)
+      subst (λ (t : Turning). DoesPart first.state q.state (turned_events limit n first t)) (sym is)
       (part_behind (step_events first) (events_within limit n r) first.state r.state q.state does takes (rest r n less.within (omega arith) reached))
   way_on limit n k first p q (Ended how) is does takes less h reached rest = cc
 

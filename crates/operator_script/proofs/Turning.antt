@@ -1,6 +1,7 @@
 -- What a turn is, by what is due, and what follows it.
-use Rattle.std.proofs.Common.{◌≡◌, ℕ, zero, suc, ◌+◌, ◌≤◌, Bool, true, false, List, [], ◌∷◌, length, drop, All, refl, ◌∙◌, ap, subst, arith, if◌then◌else◌, ◌==◌}
+use Rattle.std.proofs.Common.{◌≡◌, ℕ, zero, suc, ◌+◌, ◌≤◌, Bool, true, false, List, [], ◌∷◌, length, drop, All, refl, ◌∙◌, ap, subst, arith, if◌then◌else◌, ◌==◌, sym}
 use Rattle.std.proofs.lemmas.Bool.Decides.{nat_tests}
+use Rattle.std.proofs.lemmas.List.Elements.{All-drop}
 use Rattle.std.specs.Prelude.{Option, Some, None, is_some}
 use Rattle.cpu_step.specs.declared.machine.Mode.{Mode}
 use Rattle.cpu_step.specs.declared.machine.Mode.TheVariants as mode
@@ -10,79 +11,80 @@ use Rattle.operator_script.specs.declared.script.ScriptLine.{ScriptLine}
 use Rattle.operator_script.specs.Turn.{RunPlace, Turning, Acted, Stepped, Ended, turn, place_after_action, place_after_step, by_mode, by_script, can_go, is_due, most_turns, ending_of, due_action}
 use Rattle.operator_script.specs.Scripts.{IsLine, IsAction}
 
--- a machine that can go turns by its script
-goes_by : (limit : ℕ) (p : RunPlace) → can_go p.state.mode ≡ true → turn limit p ≡ by_script limit p p.script
-unfolding turn
-goes_by limit p go = rw go refl
+-- WHAT A TURN IS, by four things: whether the mode can go, what is due, whether the machine runs, and whether the count is at the limit.
+abbrev pub turning_by : RunPlace → Bool → Option Action → Bool → Bool → Turning
+turning_by p false due running full = Ended (ending_of p.state)
+turning_by p true (Some a) running full = Acted (place_after_action p a (drop 1 p.script))
+turning_by p true None false full = Ended (ending_of p.state)
+turning_by p true None true false = Stepped (place_after_step p)
+turning_by p true None true true = Ended (ending_of p.state)
 
-acts_by : (limit : ℕ) (p : RunPlace) (line : ScriptLine) (rest : List ScriptLine) (a : Action) (b : Bool) → (if b then Some line.action else None) ≡ Some a
-    → (if b then Acted (place_after_action p line.action rest) else by_mode limit p p.state.mode) ≡ Acted (place_after_action p a rest)
-acts_by limit p line rest a true is = let same : line.action ≡ a = cc in ap (λ x. Acted (place_after_action p x rest)) same
-acts_by limit p line rest a false is = cc
+module _ (limit : ℕ) (p : RunPlace) where
+  abbrev without_line : Mode → Turning
+  without_line m = turning_by p true None (is_running m) (p.steps == limit)
 
-script_acts : (limit : ℕ) (p : RunPlace) (lines : List ScriptLine) (a : Action) → due_action p.state.mode p.steps lines ≡ Some a → by_script limit p lines ≡ Acted (place_after_action p a (drop 1 lines))
-script_acts limit p [] a is = cc
-script_acts limit p (line ∷ rest) a is = acts_by limit p line rest a (is_due line.due p.steps p.state.mode) is
+  limit_is : (full : Bool) → (if full then Ended (ending_of p.state) else Stepped (place_after_step p)) ≡ turning_by p true None true full
+  limit_is true = refl
+  limit_is false = refl
 
--- the front line acts where it's due
-pub turn_acts : (limit : ℕ) (p : RunPlace) (a : Action) → can_go p.state.mode ≡ true → due_action p.state.mode p.steps p.script ≡ Some a → turn limit p ≡ Acted (place_after_action p a (drop 1 p.script))
-turn_acts limit p a go is = goes_by limit p go ∙ script_acts limit p p.script a is
+  mode_is : (m : Mode) → by_mode limit p m ≡ without_line m
+  mode_is mode.Running = limit_is (p.steps == limit)
+  mode_is (mode.Halted at) = refl
+  mode_is (mode.Stopped kind at) = refl
+  mode_is mode.Empty = refl
+  mode_is mode.NoKeys = refl
+  mode_is (mode.Jam u n) = refl
+  mode_is mode.Faulted = refl
 
-none_by : (limit : ℕ) (p : RunPlace) (line : ScriptLine) (rest : List ScriptLine) (b : Bool) → (if b then Some line.action else None) ≡ None
-    → (if b then Acted (place_after_action p line.action rest) else by_mode limit p p.state.mode) ≡ by_mode limit p p.state.mode
-none_by limit p line rest true is = cc
-none_by limit p line rest false is = refl
+  line_is : (line : ScriptLine) (rest : List ScriptLine) → p.script ≡ line ∷ rest → (b : Bool)
+      → (if b then Acted (place_after_action p line.action rest) else by_mode limit p p.state.mode) ≡ turning_by p true (if b then Some line.action else None) (is_running p.state.mode) (p.steps == limit)
+  line_is line rest is true = ap (λ xs. Acted (place_after_action p line.action (drop 1 xs))) (sym is)
+  line_is line rest is false = mode_is p.state.mode
 
-script_none : (limit : ℕ) (p : RunPlace) (lines : List ScriptLine) → due_action p.state.mode p.steps lines ≡ None → by_script limit p lines ≡ by_mode limit p p.state.mode
-script_none limit p [] is = refl
-script_none limit p (line ∷ rest) is = none_by limit p line rest (is_due line.due p.steps p.state.mode) is
+  script_is : (lines : List ScriptLine) → p.script ≡ lines → by_script limit p lines ≡ turning_by p true (due_action p.state.mode p.steps lines) (is_running p.state.mode) (p.steps == limit)
+  script_is [] is = mode_is p.state.mode
+  script_is (line ∷ rest) is = line_is line rest is (is_due line.due p.steps p.state.mode)
 
-turn_by_mode : (limit : ℕ) (p : RunPlace) → can_go p.state.mode ≡ true → due_action p.state.mode p.steps p.script ≡ None → turn limit p ≡ by_mode limit p p.state.mode
-turn_by_mode limit p go is = goes_by limit p go ∙ script_none limit p p.script is
+  going_is : (goes : Bool) → (if goes then by_script limit p p.script else Ended (ending_of p.state)) ≡ turning_by p goes (due_action p.state.mode p.steps p.script) (is_running p.state.mode) (p.steps == limit)
+  going_is true = script_is p.script refl
+  going_is false = refl
 
-mode_steps : (limit : ℕ) (p : RunPlace) (m : Mode) → is_running m ≡ true → (p.steps == limit) ≡ false → by_mode limit p m ≡ Stepped (place_after_step p)
-mode_steps limit p mode.Running running below = rw below refl
-mode_steps limit p (mode.Halted at) running below = cc
-mode_steps limit p (mode.Stopped kind at) running below = cc
-mode_steps limit p mode.Empty running below = cc
-mode_steps limit p mode.NoKeys running below = cc
-mode_steps limit p (mode.Jam u n) running below = cc
-mode_steps limit p mode.Faulted running below = cc
+  pub turn_is : turn limit p ≡ turning_by p (can_go p.state.mode) (due_action p.state.mode p.steps p.script) (is_running p.state.mode) (p.steps == limit)
+  unfolding turn
+  turn_is = going_is (can_go p.state.mode)
 
--- else a step is made, below the limit
-pub turn_steps : (limit : ℕ) (p : RunPlace) → is_running p.state.mode ≡ true → (p.steps == limit) ≡ false → due_action p.state.mode p.steps p.script ≡ None → can_go p.state.mode ≡ true → turn limit p ≡ Stepped (place_after_step p)
-turn_steps limit p running below is go = turn_by_mode limit p go is ∙ mode_steps limit p p.state.mode running below
+  -- the front line acts where it's due
+  pub turn_acts : (a : Action) → can_go p.state.mode ≡ true → due_action p.state.mode p.steps p.script ≡ Some a → turn limit p ≡ Acted (place_after_action p a (drop 1 p.script))
+  turn_acts a go is = turn_is ∙ rw (go, is) refl
 
-mode_full : (limit : ℕ) (p : RunPlace) (m : Mode) → (p.steps == limit) ≡ true → by_mode limit p m ≡ Ended (ending_of p.state)
-mode_full limit p mode.Running full = rw full refl
-mode_full limit p (mode.Halted at) full = refl
-mode_full limit p (mode.Stopped kind at) full = refl
-mode_full limit p mode.Empty full = refl
-mode_full limit p mode.NoKeys full = refl
-mode_full limit p (mode.Jam u n) full = refl
-mode_full limit p mode.Faulted full = refl
+  -- else a step is made, below the limit
+  pub turn_steps : is_running p.state.mode ≡ true → (p.steps == limit) ≡ false → due_action p.state.mode p.steps p.script ≡ None → can_go p.state.mode ≡ true → turn limit p ≡ Stepped (place_after_step p)
+  turn_steps running below is go = turn_is ∙ rw (go, is, running, below) refl
 
-mode_still : (limit : ℕ) (p : RunPlace) (m : Mode) → is_running m ≡ false → by_mode limit p m ≡ Ended (ending_of p.state)
-mode_still limit p mode.Running still = cc
-mode_still limit p (mode.Halted at) still = refl
-mode_still limit p (mode.Stopped kind at) still = refl
-mode_still limit p mode.Empty still = refl
-mode_still limit p mode.NoKeys still = refl
-mode_still limit p (mode.Jam u n) still = refl
-mode_still limit p mode.Faulted still = refl
+  -- the run ends at the limit
+  pub turn_full : (p.steps == limit) ≡ true → due_action p.state.mode p.steps p.script ≡ None → is_running p.state.mode ≡ true → can_go p.state.mode ≡ true → turn limit p ≡ Ended (ending_of p.state)
+  turn_full full is running go = turn_is ∙ rw (go, is, running, full) refl
 
--- the run ends at the limit
-pub turn_full : (limit : ℕ) (p : RunPlace) → (p.steps == limit) ≡ true → due_action p.state.mode p.steps p.script ≡ None → can_go p.state.mode ≡ true → turn limit p ≡ Ended (ending_of p.state)
-turn_full limit p full is go = turn_by_mode limit p go is ∙ mode_full limit p p.state.mode full
+  -- and at a halt
+  pub turn_still : is_running p.state.mode ≡ false → due_action p.state.mode p.steps p.script ≡ None → can_go p.state.mode ≡ true → turn limit p ≡ Ended (ending_of p.state)
+  turn_still still is go = turn_is ∙ rw (go, is, still) refl
 
--- and at a halt
-pub turn_still : (limit : ℕ) (p : RunPlace) → is_running p.state.mode ≡ false → due_action p.state.mode p.steps p.script ≡ None → can_go p.state.mode ≡ true → turn limit p ≡ Ended (ending_of p.state)
-turn_still limit p still is go = turn_by_mode limit p go is ∙ mode_still limit p p.state.mode still
+  -- and in any other mode
+  pub turn_over : can_go p.state.mode ≡ false → turn limit p ≡ Ended (ending_of p.state)
+  turn_over over = turn_is ∙ rw over refl
 
--- and in any other mode
-pub turn_over : (limit : ℕ) (p : RunPlace) → can_go p.state.mode ≡ false → turn limit p ≡ Ended (ending_of p.state)
-unfolding turn
-turn_over limit p over = rw over refl
+  -- What holds of the front line that acts, of a step below the limit and of the end holds of the turn.
+  module _ (Holds : Turning → Type 0) (acts : (a : Action) → due_action p.state.mode p.steps p.script ≡ Some a → Holds (Acted (place_after_action p a (drop 1 p.script))))
+      (steps : (p.steps == limit) ≡ false → Holds (Stepped (place_after_step p))) (ends : Holds (Ended (ending_of p.state))) where
+    holds_by : (goes : Bool) (due : Option Action) (running full : Bool) → due_action p.state.mode p.steps p.script ≡ due → (p.steps == limit) ≡ full → Holds (turning_by p goes due running full)
+    holds_by false due running full is at_limit = ends
+    holds_by true (Some a) running full is at_limit = acts a is
+    holds_by true None false full is at_limit = ends
+    holds_by true None true false is at_limit = steps at_limit
+    holds_by true None true true is at_limit = ends
+
+    pub turn_holds : Holds (turn limit p)
+    turn_holds = subst Holds (sym turn_is) (holds_by (can_go p.state.mode) (due_action p.state.mode p.steps p.script) (is_running p.state.mode) (p.steps == limit) refl refl)
 
 -- What follows a turn.
 
@@ -101,40 +103,18 @@ Follows limit p (Ended how) = how ≡ ending_of p.state
 pub room_for_one : (a b : ℕ) → (a == b) ≡ false → a ≤ b → suc a ≤ b
 room_for_one a b e h = grind (arith, nat_tests)
 
-running_follows : (limit : ℕ) (p : RunPlace) (b : Bool) → (p.steps == limit) ≡ b → p.steps ≤ limit → Follows limit p (if b then Ended (ending_of p.state) else Stepped (place_after_step p))
-running_follows limit p true e h = refl
-running_follows limit p false e h = let k = room_for_one p.steps limit e h in record { within = omega arith; less = omega arith; lines = λ positions all. all }
-
-mode_follows : (limit : ℕ) (p : RunPlace) (m : Mode) → p.steps ≤ limit → Follows limit p (by_mode limit p m)
-mode_follows limit p mode.Running h = running_follows limit p (p.steps == limit) refl h
-mode_follows limit p (mode.Halted at) h = refl
-mode_follows limit p (mode.Stopped kind at) h = refl
-mode_follows limit p mode.Empty h = refl
-mode_follows limit p mode.NoKeys h = refl
-mode_follows limit p (mode.Jam u n) h = refl
-mode_follows limit p mode.Faulted h = refl
-
-all_behind : (line : ScriptLine) (rest lines : List ScriptLine) → lines ≡ line ∷ rest → (positions : ℕ) → All (IsLine positions) lines → All (IsLine positions) rest
-all_behind line rest lines is positions all = let k = rw is at all in λ n d h. k (suc n) d (omega arith)
-
-line_follows : (limit : ℕ) (p : RunPlace) (line : ScriptLine) (rest : List ScriptLine) (b : Bool) → p.script ≡ line ∷ rest → p.steps ≤ limit
-    → Follows limit p (if b then Acted (place_after_action p line.action rest) else by_mode limit p p.state.mode)
-line_follows limit p line rest true e h =
-    let k : length p.script ≡ suc (length rest) = ap length e in
-    record { within = h; less = omega arith; lines = all_behind line rest p.script e }
-line_follows limit p line rest false e h = mode_follows limit p p.state.mode h
-
-script_follows : (limit : ℕ) (p : RunPlace) (lines : List ScriptLine) → p.script ≡ lines → p.steps ≤ limit → Follows limit p (by_script limit p lines)
-script_follows limit p [] e h = mode_follows limit p p.state.mode h
-script_follows limit p (line ∷ rest) e h = line_follows limit p line rest (is_due line.due p.steps p.state.mode) e h
-
-going_follows : (limit : ℕ) (p : RunPlace) (b : Bool) → p.steps ≤ limit → Follows limit p (if b then by_script limit p p.script else Ended (ending_of p.state))
-going_follows limit p true h = script_follows limit p p.script refl h
-going_follows limit p false h = refl
+-- a line that is due is one of the lines
+less_lines : (m : Mode) (steps : ℕ) (lines : List ScriptLine) (a : Action) → due_action m steps lines ≡ Some a → suc (length (drop 1 lines)) ≤ length lines
+less_lines m steps [] a is = cc
+less_lines m steps (line ∷ rest) a is = omega arith
 
 pub turn_follows : (limit : ℕ) (p : RunPlace) → p.steps ≤ limit → Follows limit p (turn limit p)
-unfolding turn
-turn_follows limit p h = going_follows limit p (can_go p.state.mode) h
+turn_follows limit p h =
+    turn_holds limit p (Follows limit p)
+    (λ a is.
+    let k = less_lines p.state.mode p.steps p.script a is in
+    record { within = h; less = omega arith; lines = λ positions all. All-drop (IsLine positions) 1 p.script all })
+    (λ below. let k = room_for_one p.steps limit below h in record { within = omega arith; less = omega arith; lines = λ positions all. all }) refl
 
 due_by : (positions : ℕ) (line : ScriptLine) (a : Action) (b : Bool) → (if b then Some line.action else None) ≡ Some a → IsLine positions line → IsAction positions a
 due_by positions line a true is fits = let same : line.action ≡ a = cc in subst (IsAction positions) same fits.1
