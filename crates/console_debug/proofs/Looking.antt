@@ -1,5 +1,5 @@
 -- A machine of which only the memory of decoded instructions has changed stands where it stood.
-use Rattle.std.proofs.Common.{◌≡◌, ◌∙◌, ℕ, sym, ap, subst}
+use Rattle.std.proofs.Common.{◌≡◌, ◌∙◌, ℕ, suc, ◌≤◌, Bool, true, false, List, refl, sym, ap, subst}
 use Rattle.std.specs.Prelude.{Option, Some, None, IfSome, is_some}
 use Rattle.outside_io.specs.World.{Seen}
 use Rattle.card_unit.specs.Hopper.{hopper_left, own_cards, HasRead}
@@ -14,13 +14,16 @@ use Rattle.cpu_step.proofs.StoredWords.{step_stored}
 use Rattle.operator_script.specs.declared.turns.Ending.{Ending}
 use Rattle.operator_script.specs.declared.turns.TurnEnd.{TurnEnd}
 use Rattle.operator_script.specs.declared.turns.TurnEnd.TheVariants as end
-use Rattle.operator_script.specs.Turn.{RunPlace, Turning}
-use Rattle.operator_script.specs.Run.{place_of}
-use Rattle.rewind_log.specs.Kept.{Kept, newest}
+use Rattle.operator_script.specs.Turn.{RunPlace, Turning, Acted, Stepped}
+use Rattle.operator_script.specs.Run.{RunState, place_of, moment_at, Moves}
+use Rattle.rewind_log.specs.Kept.{Kept, place_of_machine, places_with, newest}
 use Rattle.operator_script.proofs.ByEnding.{by_ending}
+use Rattle.operator_script.proofs.Running.{Underway, turns_left, starts, acted_on, stepped_on}
 use Rattle.console_debug.specs.Session.{Course}
-use Rattle.console_debug.specs.CursorStates.{CursorState, with_machine, IsOn, IsFit, MovesOn, StaysOn, BreaksOn, Advances}
+use Rattle.console_debug.specs.CursorStates.{CursorState, cursor_state_at, with_machine, IsOn, IsFit, MovesOn, StaysOn, BreaksOn, Advances}
 use Rattle.console_debug.specs.Debugs.{Attends}
+use Rattle.console_debug.proofs.Courses.{led_by}
+use Rattle.console_debug.proofs.Stepping.{made_on_it}
 
 module _ (m : ℕ) (x : CursorState m) (machine : Machine m) (same : ShowsTheSame m x.at.machine machine) where
   pub looked_on : (c : Course) (n f : ℕ) → IsOn m c n f x → IsOn m c n f (with_machine m x machine)
@@ -132,6 +135,37 @@ module _ (m limit : ℕ) (old new : CursorState m) (machine : Machine m) (same :
   advances_from end.Acted moves = moves_from _ moves
   advances_from end.Stepped moves = moves_from _ moves
   advances_from (end.Ended how) over = by_ending (BreaksOn m limit looked new) (BreaksOn m limit old new) (λ e. StaysOn m limit e looked new) (λ e. StaysOn m limit e old new) breaks_from stays_from how over
+
+-- A turn behind a look, from the furthest place on, that is kept.
+
+module _ (m limit : ℕ) (old : CursorState m) (machine : Machine m) (same : ShowsTheSame m old.at.machine machine) (fit : IsFit m limit old) (tip : old.behind ≡ 0)
+    (new : RunState m) (after : Seen) (ks : List Kept) (kept : ks ≡ places_with old.kept (place_of_machine m new.machine new.steps)) where
+  abbrev from : CursorState m
+  from = with_machine m old machine
+
+  abbrev made : CursorState m
+  made = cursor_state_at m new ks 0 after
+
+  abbrev Leads : (RunPlace → Turning) → Type 0
+  Leads leads = Moves m limit leads (moment_at m from.at from.seen) (moment_at m new after)
+
+  from_fit : IsFit m limit from
+  from_fit = looked_fit m old machine same limit fit
+
+  begun : Underway m limit from.at from.seen from.at from.seen
+  begun = starts m limit from.at from.seen from_fit.within from_fit.sound from_fit.lines
+
+  turn_kept : (leads : RunPlace → Turning) (by_step : Bool) → ((p : RunPlace) → leads p ≡ led_by by_step p) → Leads leads
+      → Underway m limit from.at from.seen new after × (suc (turns_left limit m new) ≤ turns_left limit m from.at) → MovesOn m limit leads old made
+  turn_kept leads by_step is_led moves under =
+      moves_from m limit old made machine same leads
+      (subst (λ (xs : List Kept). MovesOn m limit leads from (cursor_state_at m new xs 0 after)) (sym kept) (made_on_it m limit leads by_step is_led from new after tip from_fit moves under.0 under.1))
+
+  pub acted_kept : Leads Acted → MovesOn m limit Acted old made
+  acted_kept moves = turn_kept Acted false (λ p. refl) moves (acted_on m limit from.at from.seen from.at from.seen begun new after moves)
+
+  pub stepped_kept : Leads Stepped → MovesOn m limit Stepped old made
+  stepped_kept moves = turn_kept Stepped true (λ p. refl) moves (stepped_on m limit from.at from.seen from.at from.seen begun new after moves)
 
 -- What a step may have stored.
 

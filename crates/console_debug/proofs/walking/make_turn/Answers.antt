@@ -1,13 +1,10 @@
 -- A turn, and its place.
-use Rattle.std.proofs.Common.{List, false, true, lit<, refl, subst, sym}
+use Rattle.std.proofs.Common.{lit<, refl}
 use Rattle.operator_script.specs.declared.turns.TurnEnd.TheVariants as end
-use Rattle.operator_script.specs.Turn.{Acted, Stepped}
 use Rattle.operator_script.specs.Run.{run_state, standing_of}
-use Rattle.operator_script.proofs.Running.{starts, acted_on, stepped_on}
-use Rattle.rewind_log.specs.Kept.{Kept}
-use Rattle.console_debug.specs.CursorStates.{cursor_state_at, MovesOn}
-use Rattle.console_debug.proofs.Looking.{advances_from, looked_fit, newest_stored}
-use Rattle.console_debug.proofs.Stepping.{made_on_it, over_on}
+use Rattle.console_debug.specs.CursorStates.{cursor_state_at}
+use Rattle.console_debug.proofs.Looking.{advances_from, newest_stored, acted_kept, stepped_kept}
+use Rattle.console_debug.proofs.Stepping.{over_on}
 use Rattle.console_debug.proofs.walking.make_turn.Goals as goal
 
 pub keep_step-requires : goal.keep_step-requires
@@ -20,34 +17,14 @@ keep_step-requires g c =
 pub returns-in-Acted-clause-advances : goal.returns-in-Acted-clause-advances
 returns-in-Acted-clause-advances g c =
     let m = g.row.M in
-    let limit = c.args.run.now.limit in
-    let seen = g.H.Host.seen c.args.host.now in
-    let after = g.H.Host.seen c.turn.new.host in
-    let first = cursor_state_at m (standing_of m c.args.run.now) c.args.rewind.now 0 seen in
-    let old = cursor_state_at m (run_state m c.stores-stores.new.self c.args.run.now.script.now c.args.run.now.steps) c.args.rewind.now 0 seen in
-    let fit = looked_fit m first c.stores-stores.new.self c.stores-stores.ensures.same limit c.requires in
-    let new = standing_of m c.turn.new.self in
-    let under = acted_on m limit old.at seen old.at seen (starts m limit old.at seen fit.within fit.sound fit.lines) new after c.in-Acted.ensures.turns in
-    let kept = cursor_state_at m new c.keep.new.self 0 after in
-    advances_from m limit first kept c.stores-stores.new.self c.stores-stores.ensures.same end.Acted
-    (subst (λ (ks : List Kept). MovesOn m limit Acted old (cursor_state_at m new ks 0 after)) (sym c.keep.ensures)
-    (made_on_it m limit Acted false (λ p. refl) old new after refl fit c.in-Acted.ensures.turns under.0 under.1))
+    acted_kept m c.args.run.now.limit (cursor_state_at m (standing_of m c.args.run.now) c.args.rewind.now 0 (g.H.Host.seen c.args.host.now)) c.stores-stores.new.self c.stores-stores.ensures.same c.requires refl
+    (standing_of m c.turn.new.self) (g.H.Host.seen c.turn.new.host) c.keep.new.self c.keep.ensures c.in-Acted.ensures.turns
 
 pub returns-in-Stepped-clause-advances : goal.returns-in-Stepped-clause-advances
 returns-in-Stepped-clause-advances g c =
     let m = g.row.M in
-    let limit = c.args.run.now.limit in
-    let seen = g.H.Host.seen c.args.host.now in
-    let after = g.H.Host.seen c.turn.new.host in
-    let first = cursor_state_at m (standing_of m c.args.run.now) c.args.rewind.now 0 seen in
-    let old = cursor_state_at m (run_state m c.stores-stores.new.self c.args.run.now.script.now c.args.run.now.steps) c.args.rewind.now 0 seen in
-    let fit = looked_fit m first c.stores-stores.new.self c.stores-stores.ensures.same limit c.requires in
-    let new = standing_of m c.turn.new.self in
-    let under = stepped_on m limit old.at seen old.at seen (starts m limit old.at seen fit.within fit.sound fit.lines) new after c.in-Stepped.ensures.turns in
-    let kept = cursor_state_at m new c.keep_step.new.rewind 0 after in
-    advances_from m limit first kept c.stores-stores.new.self c.stores-stores.ensures.same end.Stepped
-    (subst (λ (ks : List Kept). MovesOn m limit Stepped old (cursor_state_at m new ks 0 after)) (sym c.keep_step.ensures)
-    (made_on_it m limit Stepped true (λ p. refl) old new after refl fit c.in-Stepped.ensures.turns under.0 under.1))
+    stepped_kept m c.args.run.now.limit (cursor_state_at m (standing_of m c.args.run.now) c.args.rewind.now 0 (g.H.Host.seen c.args.host.now)) c.stores-stores.new.self c.stores-stores.ensures.same c.requires refl
+    (standing_of m c.turn.new.self) (g.H.Host.seen c.turn.new.host) c.keep_step.new.rewind c.keep_step.ensures c.in-Stepped.ensures.turns
 
 pub returns-in-Ended-clause-advances : goal.returns-in-Ended-clause-advances
 returns-in-Ended-clause-advances g c =

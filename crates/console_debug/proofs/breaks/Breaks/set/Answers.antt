@@ -1,7 +1,6 @@
 -- One entry of the log more, which counts.
 use Rattle.std.proofs.Common.{◌∙◌, refl, sym, arith}
 use Rattle.sps_listing.specs.Listing.{placed_texts}
-use Rattle.console_debug.specs.declared.breaks.Breaks.{Breaks}
 use Rattle.console_debug.proofs.Tables.{times_few, counts_few, set_on, tables_set}
 use Rattle.console_debug.proofs.breaks.Breaks.set.Goals as goal
 
@@ -19,25 +18,10 @@ raise-requires-2 c =
 
 pub returns-clause-set : goal.returns-clause-set
 returns-clause-set c =
-    let new : Breaks = record {
-      statements = c.args.self.now.statements;
-      log = c.push_reserved.new.self;
-      since = c.args.self.now.since;
-      times = c.raise.new.table;
-      counts = c.raise-2.new.table;
-      numbers = c.args.self.now.numbers;
-    } in
-    set_on (placed_texts c.args.assembled.now) c.args.self.now new c.args.statement c.in-Some.address c.requires.tables (sym c.address_of.ensures ∙ c.in-Some.is) c.push_reserved.ensures.items refl
+    set_on (placed_texts c.args.assembled.now) c.args.self.now (record c.args.self.now { log = c.push_reserved.new.self; times = c.raise.new.table; counts = c.raise-2.new.table })
+    c.args.statement c.in-Some.address c.requires.tables (sym c.address_of.ensures ∙ c.in-Some.is) c.push_reserved.ensures.items refl
 
 pub returns-clause-tables : goal.returns-clause-tables
 returns-clause-tables c =
-    let new : Breaks = record {
-      statements = c.args.self.now.statements;
-      log = c.push_reserved.new.self;
-      since = c.args.self.now.since;
-      times = c.raise.new.table;
-      counts = c.raise-2.new.table;
-      numbers = c.args.self.now.numbers;
-    } in
-    tables_set (placed_texts c.args.assembled.now) c.args.self.now new c.args.statement c.in-Some.address c.requires.tables (sym c.address_of.ensures ∙ c.in-Some.is) c.push_reserved.ensures.items refl
-    c.raise.ensures c.raise-2.ensures refl
+    tables_set (placed_texts c.args.assembled.now) c.args.self.now (record c.args.self.now { log = c.push_reserved.new.self; times = c.raise.new.table; counts = c.raise-2.new.table })
+    c.args.statement c.in-Some.address c.requires.tables (sym c.address_of.ensures ∙ c.in-Some.is) c.push_reserved.ensures.items refl c.raise.ensures c.raise-2.ensures refl
