@@ -1,42 +1,34 @@
 -- What the turns of a machine do outside that goes on by steps alone.
-use Rattle.std.proofs.Common.{ℕ, zero, suc, ◌≡◌, ◌+◌, ◌-◌, ◌==◌, ◌≤◌, ◌<◌, false, List, [], ◌∷◌, ◌++◌, refl, sym, ap, ◌∙◌, arith, append_assoc}
-use Rattle.std.proofs.lemmas.Bool.Decides.{nat_tests}
+use Rattle.std.proofs.Common.{ℕ, zero, suc, ◌≡◌, ◌+◌, ◌-◌, ◌≤◌, ◌<◌, List, [], ◌++◌, refl, sym, ap, ◌∙◌, arith, append_assoc}
 use Rattle.std.proofs.lemmas.List.{append-nil}
-use Rattle.std.specs.Prelude.{if◌then◌else◌}
 use Rattle.outside_io.specs.Events.{Event}
 use Rattle.cpu_step.specs.declared.machine.Mode.{Mode}
 use Rattle.cpu_step.specs.declared.machine.Mode.TheVariants.{Running}
+use Rattle.cpu_step.specs.Machine.{is_running}
 use Rattle.cpu_step.specs.State.{UnitTexts, State}
 use Rattle.cpu_step.specs.Step.{step}
 use Rattle.cpu_step.specs.Load.{load_key}
 use Rattle.cpu_step.specs.Outside.{load_events}
 use Rattle.operator_script.specs.declared.script.ScriptLine.{ScriptLine}
-use Rattle.operator_script.specs.Turn.{RunPlace, Acted, Stepped, Ended, ending_of, is_due, place_after_action, turn, by_mode, can_go}
+use Rattle.operator_script.specs.Turn.{RunPlace, Stepped, turn, can_go, due_action}
+use Rattle.operator_script.specs.Run.{IsQuiet}
 use Rattle.operator_script.specs.TurnEvents.{step_events, events_within, run_events}
+use Rattle.operator_script.proofs.Turning.{turn_steps, counts_differ}
 use Rattle.card_steps.specs.Steps.{after_steps, events_of_steps, deck_taken}
 use Rattle.ibm1620_cli.specs.Turns.{Feed, first_in}
 use Rattle.ibm1620_cli.specs.Program.{Program, Fits, deck_of, steps_of_deck, set_up_at_power_on}
-use Rattle.ibm1620_cli.specs.RoundTrip.{NoneDueBefore}
 use Rattle.ibm1620_cli.proofs.Entering.{over_powered}
 
 abbrev pub place : State → ℕ → List ScriptLine → RunPlace
 place s n lines = record { state = s; steps = n; script = lines }
 
 -- a turn of a running machine whose front line is not due, below the limit
-pub running_turn : (limit n k : ℕ) (s : State) (lines : List ScriptLine) → n < k → k ≤ limit → NoneDueBefore k lines → s.mode ≡ Running → turn limit (place s n lines) ≡ Stepped (place (step s) (n + 1) lines)
-unfolding turn
-running_turn limit n k s [] below low none running =
-    let more : (n == limit) ≡ false = grind (arith, nat_tests) in
-    ap (λ (m : Mode). if can_go m then by_mode limit (place s n []) m else Ended (ending_of s)) running ∙ rw more refl
-running_turn limit n k s (line ∷ rest) below low none running =
-    let more : (n == limit) ≡ false = grind (arith, nat_tests) in
-    let free : is_due line.due n Running ≡ false = none n below in
-    let lines : List ScriptLine = line ∷ rest in
-    ap (λ (m : Mode). if can_go m then (if is_due line.due n m then Acted (place_after_action (place s n lines) line.action rest) else by_mode limit (place s n lines) m) else Ended (ending_of s)) running
-    ∙ rw (free, more) refl
+pub running_turn : (limit n k : ℕ) (s : State) (lines : List ScriptLine) → n < k → k ≤ limit → IsQuiet k lines → s.mode ≡ Running → turn limit (place s n lines) ≡ Stepped (place (step s) (n + 1) lines)
+running_turn limit n k s lines below low none running =
+    turn_steps limit (place s n lines) (ap is_running running) (counts_differ n limit (λ same. omega arith)) (ap (λ (m : Mode). due_action m n lines) running ∙ none n below) (ap can_go running)
 
 -- turns, and then more
-pub events_on : (n more limit k done : ℕ) (s : State) (lines : List ScriptLine) → done + n ≡ k → k ≤ limit → NoneDueBefore k lines → ((j : ℕ) → j ≤ n → (after_steps j s).mode ≡ Running)
+pub events_on : (n more limit k done : ℕ) (s : State) (lines : List ScriptLine) → done + n ≡ k → k ≤ limit → IsQuiet k lines → ((j : ℕ) → j ≤ n → (after_steps j s).mode ≡ Running)
     → events_within limit (n + more) (place s done lines) ≡ events_of_steps n s ++ events_within limit more (place (after_steps n s) k lines)
 unfolding events_within after_steps events_of_steps
 events_on zero more limit k done s lines e low none running =
@@ -56,7 +48,7 @@ pub events_made : (n : ℕ) (s : State) → ((k : ℕ) → k ≤ n → (after_st
 unfolding events_within
 events_made n s running =
     let turns : (n - 0) + 0 ≡ n + 0 = omega arith in
-    ap (λ (j : ℕ). events_within n j (place s 0 [])) turns ∙ events_on n 0 n n 0 s [] (omega arith) (omega arith) tt running ∙ append-nil (events_of_steps n s)
+    ap (λ (j : ℕ). events_within n j (place s 0 [])) turns ∙ events_on n 0 n n 0 s [] (omega arith) (omega arith) (λ j below. refl) running ∙ append-nil (events_of_steps n s)
 
 -- the Load key over a deck and the data cards, and the deck's steps, take the cards of the deck
 pub program_taken : (p : Program) (feed : Feed) (written : UnitTexts) → Fits p

@@ -13,7 +13,7 @@ unfolding last_within after_steps
 last_steps zero limit done s is running = refl
 last_steps (suc n) limit done s is running =
     let here : s.mode ≡ Running = running 0 (omega arith) in
-    rw (last_within, after_steps, running_turn limit done limit s [] (omega arith) (omega arith) tt here) (last_steps n limit (done + 1) (step s) (omega arith) (λ k l. running (suc k) (omega arith)))
+    rw (last_within, after_steps, running_turn limit done limit s [] (omega arith) (omega arith) (λ j below. refl) here) (last_steps n limit (done + 1) (step s) (omega arith) (λ k l. running (suc k) (omega arith)))
 
 -- the last place of such a run stands after as many steps as its limit has
 pub last_stands : (limit : ℕ) (s : State) → ((k : ℕ) → k ≤ limit → (after_steps k s).mode ≡ Running) → (last_place limit (first_in s [])).state ≡ after_steps limit s

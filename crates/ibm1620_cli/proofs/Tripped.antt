@@ -1,5 +1,5 @@
 -- A load of an object deck, and of a bootstrap deck, and the run of its program.
-use Rattle.std.proofs.Common.{inl, inr, ◌≢◌, ℕ, zero, suc, ◌≡◌, ◌+◌, ◌-◌, ◌==◌, ◌≤◌, ◌<◌, Bool, true, false, List, [], ◌∷◌, ◌++◌, length, map, replicate, slice_set, refl, sym, ap, ◌∙◌, arith, append_assoc, subst, All}
+use Rattle.std.proofs.Common.{inl, inr, ◌≢◌, ℕ, zero, suc, ◌≡◌, ◌+◌, ◌-◌, ◌==◌, ◌≤◌, ◌<◌, Bool, true, false, List, [], ◌∷◌, ◌++◌, length, map, drop, replicate, slice_set, refl, sym, ap, ◌∙◌, arith, append_assoc, subst, All}
 use Rattle.std.proofs.lemmas.Bool.Decides.{nat_tests}
 use Rattle.std.proofs.lemmas.List.{length-map, length-replicate}
 use Rattle.std.specs.Prelude.{Option, Some, None, IfSome, option_map, option_and_then, Result, Ok, if◌then◌else◌}
@@ -13,7 +13,8 @@ use Rattle.indicators.specs.declared.Panel.{Panel}
 use Rattle.card_code.specs.Entries.{Entry, Text, entries_of_unit, is_empty}
 use Rattle.disk_1311.specs.declared.TheConstants.{DRIVES}
 use Rattle.cpu_step.specs.declared.machine.Mode.{Mode}
-use Rattle.cpu_step.specs.declared.machine.Mode.TheVariants.{Running, Halted, Stopped, Empty, NoKeys, Jam, Faulted}
+use Rattle.cpu_step.specs.declared.machine.Mode.TheVariants.{Running}
+use Rattle.cpu_step.specs.Machine.{is_running}
 use Rattle.cpu_step.specs.State.{UnitTexts, State}
 use Rattle.cpu_step.specs.Step.{step}
 use Rattle.cpu_step.specs.Load.{load_key}
@@ -21,9 +22,14 @@ use Rattle.cpu_step.specs.Machine.{machine_texts}
 use Rattle.cpu_step.specs.Outside.{load_events}
 use Rattle.operator_script.specs.declared.script.Due.{Due}
 use Rattle.operator_script.specs.declared.script.Due.TheVariants as due
+use Rattle.operator_script.specs.declared.script.Action.{Action}
 use Rattle.operator_script.specs.declared.script.ScriptLine.{ScriptLine}
-use Rattle.operator_script.specs.Turn.{RunPlace, Turning, Acted, Stepped, Ended, ending_of, is_due, place_after_action, place_after_step, turn, by_mode, by_script, can_go, place_after, last_within}
+use Rattle.operator_script.specs.Turn.{RunPlace, Turning, Acted, Stepped, Ended, ending_of, is_due, due_action, state_after_action, turn, can_go, place_after, last_within}
+use Rattle.operator_script.specs.Run.{IsQuiet}
 use Rattle.operator_script.specs.TurnEvents.{step_events, front_events, events_within, run_events}
+use Rattle.operator_script.proofs.Turning.{turning_by, turn_is}
+use Rattle.operator_script.proofs.LastPlace.{last_on, last_from}
+use Rattle.operator_script.proofs.TurnEventLemmas.{turned_events}
 use Rattle.sps_pass_two.specs.Broken.{refusal_of}
 use Rattle.sps_pass_two.specs.Image.{Run}
 use Rattle.sps_pass_two.specs.Kept.{IsBelow}
@@ -52,7 +58,7 @@ use Rattle.ibm1620_cli.specs.Source.{program_of, made_of, assembled_source}
 use Rattle.ibm1620_cli.specs.LoadJob.{Loading, loading_of, powered_to_load, state_after_load_key, keyed_machine, loaded_promise, script_read}
 use Rattle.ibm1620_cli.specs.DiskJob.{boot_cards, disk_placing, placing_events, with_placed}
 use Rattle.ibm1620_cli.specs.Job.{modules_of, bind_events, job_promise, said_promise, DoesSaid, DoesWords, Tells}
-use Rattle.ibm1620_cli.specs.RoundTrip.{later_due, later_line, later_lines, later_place, NoneDueBefore, StandsAfter, EndsAfter, DoesAfter, load_of_made, MakesRoundTrip, RoundTripLaw, steps_of_boot, load_of_boot, arms_from_disk, set_up_from_disk, MakesDiskRoundTrip, DiskRoundTripLaw, LaterLoad, later_job, RoundTrip, DiskRoundTrip}
+use Rattle.ibm1620_cli.specs.RoundTrip.{later_due, later_line, later_lines, later_place, StandsAfter, EndsAfter, DoesAfter, load_of_made, MakesRoundTrip, RoundTripLaw, steps_of_boot, load_of_boot, arms_from_disk, set_up_from_disk, MakesDiskRoundTrip, DiskRoundTripLaw, LaterLoad, later_job, RoundTrip, DiskRoundTrip}
 use Rattle.ibm1620_cli.proofs.CardLines.{deck_read, boot_read}
 use Rattle.ibm1620_cli.proofs.Entering.{dark_cleared, over_powered, is_entered}
 use Rattle.ibm1620_cli.proofs.StepEvents.{place, running_turn, events_on}
@@ -62,7 +68,7 @@ use Rattle.ibm1620_cli.proofs.Scripts.{short_read}
 use Rattle.ibm1620_cli.proofs.PlacingOrder.{after_placed}
 
 -- so many turns later
-turns_on : (n limit k done : ℕ) (s : State) (lines : List ScriptLine) → done + n ≡ k → k ≤ limit → NoneDueBefore k lines → ((j : ℕ) → j ≤ n → (after_steps j s).mode ≡ Running)
+turns_on : (n limit k done : ℕ) (s : State) (lines : List ScriptLine) → done + n ≡ k → k ≤ limit → IsQuiet k lines → ((j : ℕ) → j ≤ n → (after_steps j s).mode ≡ Running)
     → place_after limit n (place s done lines) ≡ Some (place (after_steps n s) k lines)
 unfolding place_after after_steps
 turns_on zero limit k done s lines e low none running = let same : done ≡ k = omega arith in rw same refl
@@ -71,65 +77,51 @@ turns_on (suc n) limit k done s lines e low none running =
     rw (place_after, after_steps, running_turn limit done k s lines (omega arith) low none here)
     (turns_on n limit k (done + 1) (step s) lines (omega arith) low none (λ j l. running (suc j) (omega arith)))
 
--- With so many steps counted before, each turn is the same.
-abbrev later_turning : ℕ → Turning → Turning
-later_turning k (Acted q) = Acted (later_place k q)
-later_turning k (Stepped q) = Stepped (later_place k q)
-later_turning k (Ended how) = Ended how
+-- WITH SO MANY STEPS COUNTED BEFORE, each turn is the same.
+module _ (k : ℕ) where
+  abbrev later_turning : Turning → Turning
+  later_turning (Acted q) = Acted (later_place k q)
+  later_turning (Stepped q) = Stepped (later_place k q)
+  later_turning (Ended how) = Ended how
 
-same_due : (k n : ℕ) (d : Due) (m : Mode) → is_due (later_due k d) (n + k) m ≡ is_due d n m
-same_due k n (due.At a) m = grind (arith, nat_tests)
-same_due k n due.Halt m = refl
+  same_due : (n : ℕ) (d : Due) (m : Mode) → is_due (later_due k d) (n + k) m ≡ is_due d n m
+  same_due n (due.At a) m = grind (arith, nat_tests)
+  same_due n due.Halt m = refl
 
-same_end : (k limit n : ℕ) → (n + k == limit + k) ≡ (n == limit)
-same_end k limit n = grind (arith, nat_tests)
+  same_action : (m : Mode) (n : ℕ) (lines : List ScriptLine) → due_action m (n + k) (later_lines k lines) ≡ due_action m n lines
+  same_action m n [] = refl
+  same_action m n (line ∷ rest) = ap (λ (b : Bool). if b then Some line.action else None) (same_due n line.due m)
 
-chosen : (k limit n : ℕ) (s : State) (lines : List ScriptLine) (b c : Bool) → b ≡ c → (if b then Ended (ending_of s) else Stepped (place_after_step (later_place k (place s n lines)))) ≡ later_turning k (if c then Ended (ending_of s) else Stepped (place_after_step (place s n lines)))
-chosen k limit n s lines b true is = rw is refl
-chosen k limit n s lines b false is = let e : n + k + 1 ≡ n + 1 + k = omega arith in rw is (λ i. Stepped (place (step s) (e i) (later_lines k lines)))
+  same_rest : (lines : List ScriptLine) → drop 1 (later_lines k lines) ≡ later_lines k (drop 1 lines)
+  same_rest [] = refl
+  same_rest (line ∷ rest) = refl
 
-same_mode : (k limit : ℕ) (p : RunPlace) (m : Mode) → by_mode (limit + k) (later_place k p) m ≡ later_turning k (by_mode limit p m)
-same_mode k limit p Running = chosen k limit p.steps p.state p.script (p.steps + k == limit + k) (p.steps == limit) (same_end k limit p.steps)
-same_mode k limit p (Halted at) = refl
-same_mode k limit p (Stopped kind at) = refl
-same_mode k limit p Empty = refl
-same_mode k limit p NoKeys = refl
-same_mode k limit p (Jam u line) = refl
-same_mode k limit p Faulted = refl
+  same_end : (limit n : ℕ) → (n + k == limit + k) ≡ (n == limit)
+  same_end limit n = grind (arith, nat_tests)
 
-acts_or : (k : ℕ) (q : RunPlace) (t u : Turning) (b c : Bool) → b ≡ c → t ≡ later_turning k u → (if b then Acted (later_place k q) else t) ≡ later_turning k (if c then Acted q else u)
-acts_or k q t u b true is rest = rw is refl
-acts_or k q t u b false is rest = rw is rest
+  same_by : (p : RunPlace) (goes : Bool) (due : Option Action) (running full : Bool) → turning_by (later_place k p) goes due running full ≡ later_turning (turning_by p goes due running full)
+  same_by p false due running full = refl
+  same_by p true (Some a) running full = ap (λ xs. Acted (place (state_after_action a p.state) (p.steps + k) xs)) (same_rest p.script)
+  same_by p true None false full = refl
+  same_by p true None true false = let e : p.steps + k + 1 ≡ p.steps + 1 + k = omega arith in ap (λ n. Stepped (place (step p.state) n (later_lines k p.script))) e
+  same_by p true None true true = refl
 
-same_script : (k limit : ℕ) (p : RunPlace) (lines : List ScriptLine) → by_script (limit + k) (later_place k p) (later_lines k lines) ≡ later_turning k (by_script limit p lines)
-same_script k limit p [] = same_mode k limit p p.state.mode
-same_script k limit p (line ∷ rest) =
-    acts_or k (place_after_action p line.action rest) (by_mode (limit + k) (later_place k p) p.state.mode) (by_mode limit p p.state.mode) (is_due (later_due k line.due) (p.steps + k) p.state.mode) (is_due line.due p.steps p.state.mode)
-    (same_due k p.steps line.due p.state.mode) (same_mode k limit p p.state.mode)
-
-goes_or : (k : ℕ) (how : Turning) (t u : Turning) (b : Bool) → how ≡ later_turning k how → t ≡ later_turning k u → (if b then t else how) ≡ later_turning k (if b then u else how)
-goes_or k how t u true same rest = rest
-goes_or k how t u false same rest = same
-
-same_turn : (k limit : ℕ) (p : RunPlace) → turn (limit + k) (later_place k p) ≡ later_turning k (turn limit p)
-unfolding turn
-same_turn k limit p = goes_or k (Ended (ending_of p.state)) (by_script (limit + k) (later_place k p) (later_lines k p.script)) (by_script limit p p.script) (can_go p.state.mode) refl (same_script k limit p p.script)
-
-abbrev led : ℕ → ℕ → RunPlace → Turning → RunPlace
-led limit n p t = elim t [ Acted q ↦ last_within limit n q | Stepped q ↦ last_within limit n q | Ended how ↦ p ]
+  same_turn : (limit : ℕ) (p : RunPlace) → turn (limit + k) (later_place k p) ≡ later_turning (turn limit p)
+  same_turn limit p =
+      turn_is (limit + k) (later_place k p)
+      ∙ (λ i. turning_by (later_place k p) (can_go p.state.mode) (same_action p.state.mode p.steps p.script i) (is_running p.state.mode) (same_end limit p.steps i))
+      ∙ same_by p (can_go p.state.mode) (due_action p.state.mode p.steps p.script) (is_running p.state.mode) (p.steps == limit)
+      ∙ ap later_turning (sym (turn_is limit p))
 
 same_last : (n k limit : ℕ) (p : RunPlace) → last_within (limit + k) n (later_place k p) ≡ later_place k (last_within limit n p)
 unfolding last_within
 same_last zero k limit p = refl
-same_last (suc n) k limit p = ap (led (limit + k) n (later_place k p)) (same_turn k limit p) ∙ by_turn (same_last n k limit) (turn limit p)
+same_last (suc n) k limit p = ap (last_on (limit + k) n (later_place k p)) (same_turn k limit p) ∙ by_turn (same_last n k limit) (turn limit p)
   where
-    by_turn : ((q : RunPlace) → last_within (limit + k) n (later_place k q) ≡ later_place k (last_within limit n q)) → (t : Turning) → led (limit + k) n (later_place k p) (later_turning k t) ≡ later_place k (led limit n p t)
+    by_turn : ((q : RunPlace) → last_within (limit + k) n (later_place k q) ≡ later_place k (last_within limit n q)) → (t : Turning) → last_on (limit + k) n (later_place k p) (later_turning k t) ≡ later_place k (last_on limit n p t)
     by_turn on (Acted q) = on q
     by_turn on (Stepped q) = on q
     by_turn on (Ended how) = refl
-
-abbrev done_on : ℕ → ℕ → RunPlace → Turning → List Event
-done_on limit n p t = elim t [ Acted q ↦ front_events p.script p.state ++ events_within limit n q | Stepped q ↦ step_events p ++ events_within limit n q | Ended how ↦ [] ]
 
 same_front : (k : ℕ) (lines : List ScriptLine) (s : State) → front_events (later_lines k lines) s ≡ front_events lines s
 same_front k [] s = refl
@@ -138,37 +130,21 @@ same_front k (line ∷ rest) s = refl
 same_events : (n k limit : ℕ) (p : RunPlace) → events_within (limit + k) n (later_place k p) ≡ events_within limit n p
 unfolding events_within
 same_events zero k limit p = refl
-same_events (suc n) k limit p = ap (done_on (limit + k) n (later_place k p)) (same_turn k limit p) ∙ by_turn (same_events n k limit) (turn limit p)
+same_events (suc n) k limit p = ap (turned_events (limit + k) n (later_place k p)) (same_turn k limit p) ∙ by_turn (same_events n k limit) (turn limit p)
   where
-    by_turn : ((q : RunPlace) → events_within (limit + k) n (later_place k q) ≡ events_within limit n q) → (t : Turning) → done_on (limit + k) n (later_place k p) (later_turning k t) ≡ done_on limit n p t
+    by_turn : ((q : RunPlace) → events_within (limit + k) n (later_place k q) ≡ events_within limit n q) → (t : Turning) → turned_events (limit + k) n (later_place k p) (later_turning k t) ≡ turned_events limit n p t
     by_turn on (Acted q) = λ i. same_front k p.script p.state i ++ on q i
     by_turn on (Stepped q) = ap (λ (ds : List Event). step_events p ++ ds) (on q)
     by_turn on (Ended how) = refl
-
-abbrev after : ℕ → ℕ → Turning → Option RunPlace
-after limit n t = elim t [ Acted x ↦ place_after limit n x | Stepped x ↦ place_after limit n x | Ended how ↦ None ]
-
--- the last place, from a place on the way
-last_from : (n more limit : ℕ) (p q : RunPlace) → place_after limit n p ≡ Some q → last_within limit (n + more) p ≡ last_within limit more q
-unfolding place_after last_within
-last_from zero more limit p q reached = let same : p ≡ q = cc in let e : 0 + more ≡ more = omega arith in rw (e, same) refl
-last_from (suc n) more limit p q reached =
-    let e : suc n + more ≡ suc (n + more) = omega arith in
-    ap (λ (j : ℕ). last_within limit j p) e ∙ by_turn (λ x. last_from n more limit x q) (turn limit p) reached
-  where
-    by_turn : ((x : RunPlace) → place_after limit n x ≡ Some q → last_within limit (n + more) x ≡ last_within limit more q) → (t : Turning) → after limit n t ≡ Some q → led limit (n + more) p t ≡ last_within limit more q
-    by_turn on (Acted x) is = on x is
-    by_turn on (Stepped x) is = on x is
-    by_turn on (Ended how) is = cc
 
 -- no line that was put off is due before
 put_off : (k n : ℕ) (d : Due) → n < k → is_due (later_due k d) n Running ≡ false
 put_off k n (due.At a) below = grind (arith, nat_tests)
 put_off k n due.Halt below = refl
 
-none_due : (k : ℕ) (lines : List ScriptLine) → NoneDueBefore k (later_lines k lines)
-none_due k [] = tt
-none_due k (line ∷ rest) = λ n below. put_off k n line.due below
+none_due : (k : ℕ) (lines : List ScriptLine) → IsQuiet k (later_lines k lines)
+none_due k [] n below = refl
+none_due k (line ∷ rest) n below = ap (λ (b : Bool). if b then Some line.action else None) (put_off k n line.due below)
 
 -- FROM ONE STATE TO ANOTHER, by so many steps
 module _ (k : ℕ) (s t : State) (there : after_steps k s ≡ t) (running : (n : ℕ) → n ≤ k → (after_steps n s).mode ≡ Running) where

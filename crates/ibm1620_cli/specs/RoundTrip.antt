@@ -1,6 +1,6 @@
 -- THE ROUND TRIP: the bytes of Object, given as Deck, are the cards again, and a load of them comes to where the program is entered, and
 -- ends and does what comes of that.
-use Rattle.std.specs.Prelude.{ℕ, ◌≡◌, ◌≢◌, ◌<◌, ◌≤◌, ◌+◌, false, ⊤, List, [], ◌∷◌, ◌++◌, length, map, replicate, slice_set, Some, None, IfSome, Ok}
+use Rattle.std.specs.Prelude.{ℕ, ◌≡◌, ◌≢◌, ◌≤◌, ◌+◌, List, ◌++◌, length, map, replicate, slice_set, Some, None, IfSome, Ok}
 use Rattle.outside_io.specs.declared.host.Unit.TheVariants as units
 use Rattle.outside_io.specs.World.{World, Seen, Rose, all_units}
 use Rattle.outside_io.specs.Events.{Event, text_events, DidAll}
@@ -17,7 +17,8 @@ use Rattle.cpu_step.specs.Outside.{load_events}
 use Rattle.operator_script.specs.declared.script.Due.{Due}
 use Rattle.operator_script.specs.declared.script.Due.TheVariants as due
 use Rattle.operator_script.specs.declared.script.ScriptLine.{ScriptLine}
-use Rattle.operator_script.specs.Turn.{RunPlace, is_due, place_after, last_place, ending_of}
+use Rattle.operator_script.specs.Turn.{RunPlace, place_after, last_place, ending_of}
+use Rattle.operator_script.specs.Run.{IsQuiet}
 use Rattle.operator_script.specs.TurnEvents.{run_events}
 use Rattle.card_steps.specs.Steps.{deck_taken}
 use Rattle.operator_script.specs.Script.{script_of}
@@ -58,15 +59,10 @@ later_lines k lines = map (later_line k) lines
 abbrev pub later_place : ℕ → RunPlace → RunPlace
 later_place k p = record { state = p.state; steps = p.steps + k; script = later_lines k p.script }
 
--- while a machine runs, the front line is not due before so many steps
-abbrev pub NoneDueBefore : ℕ → List ScriptLine → Type 0
-NoneDueBefore k [] = ⊤
-NoneDueBefore k (line ∷ rest) = (n : ℕ) → n < k → is_due line.due n Running ≡ false
-
 -- So many turns on from one state stands another, with so many steps counted, under each limit that is not below, where no line is due
 -- before.
 abbrev pub StandsAfter : ℕ → State → State → Type 0
-StandsAfter k s t = (limit : ℕ) (lines : List ScriptLine) → k ≤ limit → NoneDueBefore k lines
+StandsAfter k s t = (limit : ℕ) (lines : List ScriptLine) → k ≤ limit → IsQuiet k lines
     → place_after limit k (first_in s lines) ≡ Some (record { state = t; steps = k; script = lines })
 
 -- With so many steps more, in the limit and in each AT line, the turns from the one state end where those from the other end, with so many
