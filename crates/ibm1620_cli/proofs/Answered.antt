@@ -1,6 +1,6 @@
 -- All that is said of an answer, by what was read of the words.
 use Rattle.std.proofs.Common.{◌≡◌, subst, map, string_bytes, true}
-use Rattle.std.specs.Prelude.{ℕ, List, Option, Some, Result, Ok, Err, IfOk, IfErr, option_map, is_some}
+use Rattle.std.specs.Prelude.{ℕ, List, Option, Result, Ok, Err, IfOk, IfErr, option_map, is_some}
 use Rattle.std.specs.declared.alloc.AllocError.{AllocError}
 use Rattle.outside_io.specs.World.{Seen, IsFresh}
 use Rattle.command_line.specs.declared.given.Plain.{Plain}

@@ -28,6 +28,7 @@ use Rattle.operator_script.specs.Scripts.{lines_left}
 use Rattle.operator_script.specs.Turn.{RunPlace, last_place, most_turns, IsLast, IsOnTheWay}
 use Rattle.operator_script.specs.TurnEvents.{run_events}
 use Rattle.operator_script.specs.Run.{RunState, run_state, moment_at, place_of, RunsOut, BreaksOff, Runs}
+use Rattle.operator_script.proofs.ByEnding.{either, not_failed}
 use Rattle.operator_script.proofs.LastPlace.{last_is}
 use Rattle.operator_script.proofs.Running.{place_is}
 use Rattle.operator_script.proofs.TurnEventLemmas.{DoesPart, last_does, last_takes, way_did}
@@ -65,31 +66,21 @@ ran_by {A = A} k (Some a) x here y z g how z_is x_is told place last each =
 pub frames_stay : (m : ℕ) (old new : Machine m) (before after : Seen) → Frames m old new before after → Stays reads_feed before.world after.world
 frames_stay m old new before after frames = record { in_use = frames.keeps.in_use; names = frames.keeps.names; left = λ u unread. frames.keeps.left u (neither (is_read u) (reads_pack u) unread).0; sectors = λ none. cc; asked = λ u unread. frames.keeps.asked u (neither (is_read u) (reads_pack u) unread).0; once = λ u fed. once_same _ _ (frames.keeps.asked u (neither (is_read u) (reads_pack u) fed).0) }
 
--- and so a run
-run_stays : (m limit : ℕ) (old new : RunState m) (before after : Seen) (how : Ending) → Runs m limit (moment_at m old before) (moment_at m new after) how → Stays reads_feed before.world after.world
-run_stays m limit old new before after ending.Failed runs = frames_stay m old.machine new.machine before after runs.frames
-run_stays m limit old new before after (ending.Halted at) runs = frames_stay m old.machine new.machine before after runs.frames
-run_stays m limit old new before after (ending.Stopped kind at) runs = frames_stay m old.machine new.machine before after runs.frames
-run_stays m limit old new before after ending.Limit runs = frames_stay m old.machine new.machine before after runs.frames
-run_stays m limit old new before after (ending.NeedCards at) runs = frames_stay m old.machine new.machine before after runs.frames
-run_stays m limit old new before after (ending.NeedKeys at) runs = frames_stay m old.machine new.machine before after runs.frames
-run_stays m limit old new before after (ending.Jam u n) runs = frames_stay m old.machine new.machine before after runs.frames
+-- what stays in a run, however it ends
+run_frames : (m limit : ℕ) (old new : RunState m) (before after : Seen) (how : Ending) → Runs m limit (moment_at m old before) (moment_at m new after) how → Frames m old.machine new.machine before after
+run_frames m limit old new before after how runs =
+    either (BreaksOff m limit (moment_at m old before) (moment_at m new after)) (RunsOut m limit (moment_at m old before) (moment_at m new after)) (λ e. Frames m old.machine new.machine before after)
+    (λ broke. broke.frames) (λ e other out. out.frames) how runs
 
 turns_stay : (m limit : ℕ) (machine : Machine m) (script : Script) (old new : Seen) (answer : Answer) → TakesTurns m limit machine script old new answer → Stays reads_feed old.world new.world
 turns_stay m limit machine script old new answer taken =
     stays_on reads_feed old.world taken.mid.world new.world
-    (run_stays m limit (run_state m machine script 0) (run_state m taken.left taken.left_script taken.steps) old taken.mid taken.how taken.runs)
+    (frames_stay m machine taken.left old taken.mid (run_frames m limit (run_state m machine script 0) (run_state m taken.left taken.left_script taken.steps) old taken.mid taken.how taken.runs))
     (report_stays taken.mid new (status_of taken.steps taken.how) (report_line (status_of taken.steps taken.how)) answer.status taken.reports)
 
 -- a run that didn't fail came to its end
 pub runs_out : (m limit : ℕ) (old new : RunState m) (before after : Seen) (how : Ending) → (how ≡ ending.Failed → ⊥) → Runs m limit (moment_at m old before) (moment_at m new after) how → RunsOut m limit (moment_at m old before) (moment_at m new after) how
-runs_out m limit old new before after ending.Failed other runs = absurd (other refl)
-runs_out m limit old new before after (ending.Halted at) other runs = runs
-runs_out m limit old new before after (ending.Stopped kind at) other runs = runs
-runs_out m limit old new before after ending.Limit other runs = runs
-runs_out m limit old new before after (ending.NeedCards at) other runs = runs
-runs_out m limit old new before after (ending.NeedKeys at) other runs = runs
-runs_out m limit old new before after (ending.Jam u n) other runs = runs
+runs_out m limit old new before after = not_failed (BreaksOff m limit (moment_at m old before) (moment_at m new after)) (RunsOut m limit (moment_at m old before) (moment_at m new after))
 
 -- one that failed broke off
 pub broke_off : (m limit : ℕ) (old new : RunState m) (before after : Seen) (how : Ending) → how ≡ ending.Failed → Runs m limit (moment_at m old before) (moment_at m new after) how → BreaksOff m limit (moment_at m old before) (moment_at m new after)
@@ -109,15 +100,6 @@ report_later : (old new : Seen) (status : Status) (line : List ℕ) (answer : St
 report_later old new status line answer (inl done) = done.1.later
 report_later old new status line answer (inr stops) = stops.1.goes.later
 
-run_later : (m limit : ℕ) (old new : RunState m) (before after : Seen) (how : Ending) → Runs m limit (moment_at m old before) (moment_at m new after) how → before.faults ≤ after.faults
-run_later m limit old new before after ending.Failed runs = runs.frames.later
-run_later m limit old new before after (ending.Halted at) runs = runs.frames.later
-run_later m limit old new before after (ending.Stopped kind at) runs = runs.frames.later
-run_later m limit old new before after ending.Limit runs = runs.frames.later
-run_later m limit old new before after (ending.NeedCards at) runs = runs.frames.later
-run_later m limit old new before after (ending.NeedKeys at) runs = runs.frames.later
-run_later m limit old new before after (ending.Jam u n) runs = runs.frames.later
-
 -- nor do faults fall
 pub executes_later : (m steps limit : ℕ) (hopper : Hopper) (script : Script) (old new : Seen) (answer : Answer) → Executes m steps limit hopper script old new answer → old.faults ≤ new.faults
 executes_later m steps limit hopper script old new answer (lacks_memory status same) = rw same (omega arith)
@@ -128,7 +110,7 @@ executes_later m steps limit hopper script old new answer (takes_turns pressed r
       arith,
       key.makes.frames.later,
       made.out.frames.later,
-      run_later m limit (run_state m ready script 0) (run_state m taken.left taken.left_script taken.steps) ready_at taken.mid taken.how taken.runs,
+      (run_frames m limit (run_state m ready script 0) (run_state m taken.left taken.left_script taken.steps) ready_at taken.mid taken.how taken.runs).later,
       report_later taken.mid new (status_of taken.steps taken.how) (report_line (status_of taken.steps taken.how)) answer.status taken.reports,
     )
 

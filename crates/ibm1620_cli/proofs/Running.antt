@@ -1,5 +1,5 @@
 -- The promises of jobs whose machine runs the program of a source.
-use Rattle.std.proofs.Common.{◌≡◌, ℕ, true, List, sym, ◌∙◌, ap, subst, inl, inr}
+use Rattle.std.proofs.Common.{◌≡◌, ℕ, List, sym, ◌∙◌, ap, subst, inl, inr}
 use Rattle.std.proofs.lemmas.Bool.{true≢false}
 use Rattle.std.specs.Prelude.{◌≢◌, Option, Some, None, IfSome}
 use Rattle.outside_io.specs.World.{World, Seen}
