@@ -29,11 +29,12 @@ use std::alloc::Global;
 // How many bytes commands have at most.
 const LONGEST_COMMANDS: usize = 1_000_000;
 
-// What a session is given besides its program: the operator's script, the debugger's commands, and the limit of steps.
+// What a session is given besides its program: the operator's script, the debugger's commands, and the settings.
+#[derive(Drop)]
 struct Given {
     script: Script,
     commands: Commands,
-    limit: u64,
+    settings: Settings,
 }
 
 // Reads the script, the commands and the source, assembles it, and carries the commands out over its program.
@@ -66,7 +67,14 @@ fn debug_under<const M: u32, H: Host>(
     ensures stays { Stays reads_session (H.seen host.old).world (H.seen host.new).world }
 {
     match read_commands::<M, H>(alloc, host) {
-        Ok(commands) => debug_by::<M, H>(alloc, host, script, commands, settings),
+        Ok(commands) => {
+            let given = Given {
+                script,
+                commands,
+                settings,
+            };
+            debug_by::<M, H>(alloc, host, given)
+        }
         Err(status) => Answer::of(report(host, status)),
     }
 }
@@ -88,23 +96,17 @@ fn read_commands<const M: u32, H: Host>(alloc: Global, host: &mut H) -> Result<C
 }
 
 // Reads the source, assembles it, carries the commands out over its program, and answers with the statement at IR.
-fn debug_by<const M: u32, H: Host>(
-    alloc: Global,
-    host: &mut H,
-    script: Script,
-    commands: Commands,
-    settings: Settings,
-) -> Answer
+fn debug_by<const M: u32, H: Host>(alloc: Global, host: &mut H, given: Given) -> Answer
     requires size { IsSize M }
-    requires lines { All (IsLine (size M)) (lines_left script) }
-    requires ready { AreReady M commands }
-    ensures promise { DebugsBy M settings script commands
+    requires lines { All (IsLine (size M)) (lines_left given.script) }
+    requires ready { AreReady M given.commands }
+    ensures promise { DebugsBy M given.settings given.script given.commands
         (H.seen host.old) (H.seen host.new) result }
     ensures stays { Stays reads_program (H.seen host.old).world (H.seen host.new).world }
 {
     match read_source::<M, H>(alloc, host) {
         Ok(sound) => {
-            let answer = debug_assembled::<M, H>(alloc, host, &sound, script, commands, settings);
+            let answer = debug_assembled::<M, H>(alloc, host, &sound, given);
             with_statement(&sound, answer)
         }
         Err(answer) => answer,
@@ -117,32 +119,20 @@ fn debug_assembled<const M: u32, H: Host>(
     alloc: Global,
     host: &mut H,
     sound: &SoundSource,
-    script: Script,
-    commands: Commands,
-    settings: Settings,
+    given: Given,
 ) -> Answer
     requires size { IsSize M }
     requires is { IsSound M sound.now }
-    requires lines { All (IsLine (size M)) (lines_left script) }
-    requires ready { AreReady M commands }
-    ensures promise { DebugsAssembled M settings script commands sound.now.source.items
+    requires lines { All (IsLine (size M)) (lines_left given.script) }
+    requires ready { AreReady M given.commands }
+    ensures promise { DebugsAssembled M given.settings given.script given.commands sound.now.source.items
         (H.seen host.old) (H.seen host.new) result }
     ensures stays { Stays reads_feed (H.seen host.old).world (H.seen host.new).world }
 {
-    match write_source::<M, H>(alloc, host, sound, settings.form) {
+    match write_source::<M, H>(alloc, host, sound, given.settings.form) {
         Ok(cards) => {
-            let given = Given {
-                script,
-                commands,
-                limit: settings.limit,
-            };
-            hold_session::<M, H>(
-                alloc,
-                host,
-                Hopper::of_cards(cards),
-                &sound.assembled,
-                given,
-            )
+            let hopper = Hopper::of_cards(cards);
+            hold_session::<M, H>(alloc, host, hopper, &sound.assembled, given)
         }
         Err(status) => Answer::of(status),
     }
@@ -160,13 +150,13 @@ fn hold_session<const M: u32, H: Host>(
     requires size { IsSize M }
     requires lines { All (IsLine (size M)) (lines_left given.script) }
     requires ready { AreReady M given.commands }
-    ensures { HoldsSession M given.limit (placed_texts assembled.now) hopper given.script given.commands
+    ensures { HoldsSession M given.settings.limit (placed_texts assembled.now) hopper given.script given.commands
         (H.seen host.old) (H.seen host.new) result }
 {
     let Given {
         mut script,
         mut commands,
-        limit,
+        settings,
     } = given;
     let mut rewind = match Rewind::<M>::new(alloc) {
         Ok(rewind) => rewind,
@@ -183,7 +173,7 @@ fn hold_session<const M: u32, H: Host>(
     match session(
         &mut machine,
         &mut script,
-        limit,
+        settings.limit,
         assembled,
         &mut commands,
         &mut rewind,
