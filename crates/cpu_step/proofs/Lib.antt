@@ -8,7 +8,6 @@ pub mod Keyed
 pub mod Disked
 pub mod Loaded
 pub mod Exact
-pub mod Outputs
 pub mod OwnUnits
 pub mod Outside
 pub mod InputsTaken

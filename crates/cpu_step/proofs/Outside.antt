@@ -19,7 +19,6 @@ use Rattle.cpu_step.specs.Machine.{state_of, is_read, is_written}
 use Rattle.cpu_step.specs.Load.{state_for_load, load_trace, load_key, load_cut}
 use Rattle.cpu_step.specs.Outside.{outside, all_outside, load_events}
 use Rattle.cpu_step.proofs.Exact.{state_is, state_pack}
-use Rattle.cpu_step.proofs.Outputs.{SameWritten}
 use Rattle.cpu_step.proofs.Texts.{same_written}
 use Rattle.cpu_step.proofs.OwnUnits.{IsOwn, instruction_own, load_own}
 
@@ -35,12 +34,6 @@ seen_put : (own same : Bool) (byte : ℕ) (o p : Option (List ℕ)) → (same �
 seen_put true same byte o p is = refl
 seen_put false true byte o p is = absurd (true≢false (sym (is refl)))
 seen_put false false byte o p is = refl
-
-pub same_seen : (w : World) (s t : State) → SameWritten s t → seen_by w s ≡ seen_by w t
-same_seen w s t same = λ i. record w {
-  written = λ v. if is_written v then same.written i v else w.written v;
-  sectors = Some (same.sectors i);
-}
 
 module _ (w : World) where
   one_seen : (s : State) (e : Effect) → IsOwn e → seen_by w (after_one s e) ≡ after_events (seen_by w s) (outside e)

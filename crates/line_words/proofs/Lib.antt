@@ -2,5 +2,4 @@ pub mod WordsBehind
 pub mod Cutting
 pub mod EndBlanks
 pub mod Numbers
-pub mod Limits
 pub mod Reading
