@@ -1,11 +1,8 @@
 -- The dense deck loads its image over any core.
-use Rattle.std.proofs.Common.{ℕ, ◌≡◌, ◌+◌, suc, ◌*◌, ◌<◌, ◌≤◌, ◌⊎◌, ◌&&◌, inl, inr, nat_lt, nat_le, true, false, List, [], ◌∷◌, ◌++◌, length, map, replicate, get_or, Option, None, refl, sym, ◌∙◌, ap, arith, length-append, append_assoc, All}
+use Rattle.std.proofs.Common.{ℕ, ◌≡◌, ◌+◌, suc, ◌*◌, ◌<◌, ◌≤◌, ◌⊎◌, inl, inr, false, List, [], ◌∷◌, ◌++◌, length, map, replicate, get_or, Option, None, refl, sym, ◌∙◌, ap, arith, length-append, append_assoc, All}
 use Rattle.std.proofs.lemmas.List.{length-map}
-use Rattle.std.proofs.lemmas.Bool.{cases_lt}
-use Rattle.std.proofs.lemmas.Bool.Decides.{nat_tests}
 use Rattle.digit_core.specs.declared.Digit.{Digit}
 use Rattle.digit_core.specs.Cell.{unflagged_digit}
-use Rattle.digit_core.specs.Standard.{standard_digit}
 use Rattle.digit_core.specs.Size.{IsSize, size}
 use Rattle.indicators.specs.Panel.{set}
 use Rattle.indicators.specs.Lamps.{panel_for_load}
@@ -22,23 +19,24 @@ use Rattle.sps_pass_two.specs.Kept.{IsPiece, IsBelow, lowest_declared}
 use Rattle.deck_punch.specs.declared.form.DeckForm.TheVariants.{SelfLoading, Dense}
 use Rattle.deck_punch.specs.Cut.{cut, cut_dense}
 use Rattle.card_columns.specs.Orders.{address, order}
-use Rattle.deck_punch.specs.Cards.{card_of, transfer_card, transfer_digits}
+use Rattle.deck_punch.specs.Cards.{card_of, transfer_card}
 use Rattle.deck_punch.specs.Tables.{table_piece, other_pieces}
 use Rattle.deck_punch.specs.Dense.{indirect, dense_digits, dense_card_of, loader_digits, loader_card, bridge_digits, bridge_card, dense_deck, dense_steps}
 use Rattle.deck_punch.proofs.Declaring.{cut_declares}
-use Rattle.deck_punch.proofs.WithTables.{table_there, table_below, table_above, others_low, others_declare, others_each, others_behind, others_below}
-use Rattle.deck_punch.specs.Overlay.{cell_or, overlay_cell, overlay}
+use Rattle.deck_punch.proofs.WithTables.{table_there, others_each, others_behind, others_below}
+use Rattle.deck_punch.specs.Overlay.{cell_or, overlay}
 use Rattle.card_steps.specs.Steps.{after_steps}
 use Rattle.loader_cards.specs.Loads.{state_at_start, LoadsOver, Loads}
 use Rattle.card_columns.proofs.GoodDigits.{Good, good_address, IsCard, good_zeros, good_order}
 use Rattle.card_steps.proofs.Held.{Holds, same_held}
 use Rattle.card_steps.proofs.Leading.{Leads, leads_none, leads_then, deck_takes}
 use Rattle.card_steps.proofs.Laid.{laid, laid_length, laid_there, laid_elsewhere, ReadsCard, card_read}
-use Rattle.loader_cards.proofs.Segments.{AreSegments, segment_cells, cell_twice, cut_segments, nothing_low}
+use Rattle.loader_cards.proofs.Segments.{AreSegments, segment_cells, cell_twice, cut_segments}
 use Rattle.card_steps.proofs.NextCard.{next_state}
 use Rattle.loader_cards.proofs.Decks.{front, behind, front_card, deck_hopper, Begins, Ends, deck_loads}
 use Rattle.card_steps.proofs.Lamps.{lamp_first, lamp_twice, quiet_first}
-use Rattle.loader_cards.proofs.Overlaid.{table_low, table_cell, overlay_is}
+use Rattle.loader_cards.proofs.Overlaid.{table_low}
+use Rattle.loader_cards.proofs.OverlaidBy.{table_beside, overlaid_by}
 use Rattle.loader_cards.proofs.DenseParts.{AreDense, dense_segments, segment_low}
 use Rattle.loader_cards.proofs.DenseSteps.{at_ir, card_entry}
 use Rattle.loader_cards.proofs.DenseCard.{segment_loads}
@@ -218,19 +216,6 @@ module _ (image : List Run) (start m : ℕ) (s : State) (rest : List Entry) (siz
   ends : Ends start ts (panel_for_load s.panel) (4 * length ts + 1) s2 rest start
   ends = deck_loads ts start (panel_for_load s.panel) s2 rest (omega (arith, long2, long, below_end)) begins
 
-  -- each cell
-  abbrev old : ℕ → ℕ
-  old a = get_or s.core a 0
-
-  at_low : (a : ℕ) → a < 80 → get_or ends.core a 0 ≡ overlay_cell image start a (old a)
-  unfolding transfer_digits
-  at_low a l =
-      let none = nothing_low image lowest a (omega arith) in
-      let t1 : (nat_le 100 a && nat_lt a 400) ≡ false = grind (arith, nat_tests) in
-      let t2 : nat_lt a 80 ≡ true = grind (arith, nat_tests) in
-      let z : 0 + a ≡ a = omega arith in
-      rw (none, t1, t2) (rw z at (ends.transfer.cells a l))
-
   -- above the transfer card the table piece stands over what the bridge left
   over : (a : ℕ) → 80 ≤ a → get_or ends.core a 0 ≡ cell_or (digit_at (table_piece image) a) (get_or two.new a 0)
   over a h =
@@ -238,39 +223,16 @@ module _ (image : List Run) (start m : ℕ) (s : State) (rest : List Entry) (siz
       ∙ ap (cell_or (digit_at (table_piece image) a)) (laid_elsewhere next two.new 0 a (inr (omega (arith, whole))))
 
   -- and beside the buffer the other pieces' digits over what was there
-  under_it : (a : ℕ) → 80 ≤ a → (a < 100) ⊎ (180 ≤ a) → get_or two.new a 0 ≡ cell_or (declared_digit (other_pieces image) a) (old a)
+  under_it : (a : ℕ) → 80 ≤ a → (a < 100) ⊎ (180 ≤ a) → get_or two.new a 0 ≡ cell_or (declared_digit (other_pieces image) a) (get_or s.core a 0)
   under_it a h far =
       two.others a h far ∙ one.cells a far ∙ ap (λ (o : Option Digit). cell_or o (get_or core0 a 0)) (cut_declares Dense (other_pieces image) a)
       ∙ ap (cell_or (declared_digit (other_pieces image) a)) (laid_elsewhere loader_digits s.core 0 a (inr (rw loader_length (omega arith))))
 
-  at_table : (a : ℕ) → 100 ≤ a → a < 400 → get_or ends.core a 0 ≡ overlay_cell image start a (old a)
-  at_table a low high =
-      let t1 : (nat_le 100 a && nat_lt a 400) ≡ true = grind (arith, nat_tests) in
-      let o = rw (table_there image a low high) at (over a (omega arith)) in
-      rw t1 (o ∙ table_cell (declared_digit image a) (standard_digit a))
-
-  at_other : (a : ℕ) → 80 ≤ a → (a < 100) ⊎ (180 ≤ a) → declared_digit (other_pieces image) a ≡ declared_digit image a → digit_at (table_piece image) a ≡ None → (nat_le 100 a && nat_lt a 400) ≡ false → get_or ends.core a 0 ≡ overlay_cell image start a (old a)
-  at_other a h far same none t1 =
-      let t2 : nat_lt a 80 ≡ false = grind (arith, nat_tests) in
-      let o = rw none at (over a h) in
-      let u = rw same at (under_it a h far) in
-      rw (t1, t2) (o ∙ u)
-
-  at_each : (a : ℕ) → get_or ends.core a 0 ≡ overlay_cell image start a (old a)
-  at_each a =
-      elim (cases_lt a 80) [
-        | inl l ↦ at_low a l
-        | inr h ↦ elim (cases_lt a 100) [
-          | inl l ↦ at_other a h (inl l) (others_low image a (omega arith) ∙ sym (nothing_low image lowest a l)) (table_below image a l) (grind (arith, nat_tests))
-          | inr t ↦ elim (cases_lt a 400) [
-            | inl l ↦ at_table a t l
-            | inr u ↦ at_other a h (inr (omega arith)) (others_declare image a u) (table_above image a u) (grind (arith, nat_tests))
-          ]
-        ]
-      ]
-
   core_is : ends.core ≡ overlay s.core image start
-  core_is = overlay_is image start s.core ends.core (ends.long ∙ long2) at_each
+  core_is =
+      overlaid_by image start s.core ends.core lowest (ends.long ∙ long2) ends.transfer
+      (λ a low high. rw (table_there image a low high) at (over a (omega arith)))
+      (λ a h far. (rw (table_beside image a far) at (over a h)) ∙ under_it a h (elim far [ inl l ↦ inl l | inr u ↦ inr (omega arith) ]))
 
   -- all the steps
   abbrev steps : ℕ

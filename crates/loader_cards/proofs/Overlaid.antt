@@ -1,14 +1,9 @@
 -- The deck loads its image over any core.
-use Rattle.std.proofs.Common.{ℕ, ◌≡◌, ◌+◌, ◌*◌, ◌<◌, ◌≤◌, ◌&&◌, inl, inr, nat_lt, nat_le, true, false, List, [], ◌∷◌, ◌++◌, length, map, get_or, Option, Some, None, refl, sym, ◌∙◌, ap, arith, length-append, All}
-use Rattle.std.proofs.lemmas.List.{ext_get_or, length-map}
-use Rattle.std.proofs.lemmas.List.FromFn.{get_or-map-range_with_len, length-map-range_with_len}
-use Rattle.std.proofs.lemmas.Bool.{cases_lt}
-use Rattle.std.proofs.lemmas.Bool.Decides.{nat_tests}
+use Rattle.std.proofs.Common.{ℕ, ◌≡◌, ◌+◌, ◌*◌, ◌<◌, ◌≤◌, inr, List, [], ◌∷◌, ◌++◌, length, map, get_or, Option, refl, sym, ◌∙◌, ap, arith, length-append, All}
+use Rattle.std.proofs.lemmas.List.{length-map}
 use Rattle.digit_core.specs.declared.Digit.{Digit}
-use Rattle.digit_core.specs.Cell.{cell, unflagged_digit}
-use Rattle.std.specs.Prelude.{unwrap_or}
+use Rattle.digit_core.specs.Cell.{unflagged_digit}
 use Rattle.digit_core.specs.Size.{IsSize, size}
-use Rattle.digit_core.specs.Standard.{standard_digit}
 use Rattle.indicators.specs.Panel.{set}
 use Rattle.indicators.specs.Lamps.{panel_for_load}
 use Rattle.branch_ops.specs.Registers.{on_at}
@@ -22,17 +17,18 @@ use Rattle.cpu_step.specs.Load.{state_for_load, load_key}
 use Rattle.sps_pass_two.specs.Image.{Run, digit_at, declared_digit, or_else}
 use Rattle.sps_pass_two.specs.Kept.{IsPiece, IsBelow, lowest_declared}
 use Rattle.deck_punch.specs.declared.form.DeckForm.TheVariants.{SelfLoading}
-use Rattle.deck_punch.specs.Cards.{card_of, transfer_card, transfer_digits}
+use Rattle.deck_punch.specs.Cards.{card_of, transfer_card}
 use Rattle.deck_punch.specs.Tables.{table_piece, other_pieces, with_tables}
 use Rattle.deck_punch.specs.Deck.{segments, deck, deck_steps}
-use Rattle.deck_punch.proofs.Declaring.{cut_declares}
-use Rattle.deck_punch.proofs.WithTables.{table_from, table_length, table_good, table_there, table_below, table_above, others_low, others_declare, others_each, others_behind, others_below}
-use Rattle.deck_punch.specs.Overlay.{cell_or, overlay_cell, overlay}
+use Rattle.deck_punch.proofs.Declaring.{cut_declares, or_none}
+use Rattle.deck_punch.proofs.WithTables.{table_from, table_length, table_good, table_there, others_low, others_each, others_behind, others_below}
+use Rattle.deck_punch.specs.Overlay.{cell_or, overlay}
 use Rattle.card_steps.specs.Steps.{after_steps}
 use Rattle.loader_cards.specs.Loads.{state_at_start, LoadsOver, Loads}
 use Rattle.card_steps.proofs.Leading.{deck_takes}
 use Rattle.card_steps.proofs.Laid.{laid, laid_length, laid_there, laid_elsewhere, ReadsCard, card_read}
-use Rattle.loader_cards.proofs.Segments.{AreSegments, IsLow, cell_twice, cut_segments, pieces_low, nothing_low}
+use Rattle.loader_cards.proofs.Segments.{AreSegments, IsLow, cut_segments, pieces_low}
+use Rattle.loader_cards.proofs.OverlaidBy.{table_beside, overlaid_by}
 use Rattle.card_columns.proofs.GoodDigits.{IsCard}
 use Rattle.loader_cards.proofs.Decks.{front, behind, front_card, deck_hopper, Begins, Ends, deck_loads}
 use Rattle.card_steps.proofs.Lamps.{lamp_first, lamp_twice, quiet_first}
@@ -52,19 +48,6 @@ deck_segments n image h each under = cut_segments n (with_tables image) (table_l
 deck_declares : (image : List Run) (a : ℕ) → declared_digit (segments image) a ≡ or_else (declared_digit (other_pieces image) a) (digit_at (table_piece image) a)
 unfolding declared_digit
 deck_declares image a = cut_declares SelfLoading (with_tables image) a
-
--- the image's digit where there is one, and else the standard one
-pub table_cell : (o : Option Digit) (d : Digit) → cell (unwrap_or o d) ≡ cell_or o (cell d)
-table_cell None d = refl
-table_cell (Some e) d = refl
-
--- a core that is the overlay cell by cell is the overlay
-pub overlay_is : (image : List Run) (start : ℕ) (core new : List ℕ) → length new ≡ length core → ((a : ℕ) → get_or new a 0 ≡ overlay_cell image start a (get_or core a 0)) → new ≡ overlay core image start
-unfolding overlay
-overlay_is image start core new long each =
-    let f : ℕ → ℕ = λ a. overlay_cell image start a (get_or core a 0) in
-    let k = length-map-range_with_len f 0 (length core) in
-    ext_get_or 0 new _ (long ∙ sym k) (λ i l. each i ∙ sym (get_or-map-range_with_len f 0 (length core) i i 0 (omega arith) (omega arith)))
 
 module _ (image : List Run) (start m : ℕ) (s : State) (rest : List Entry) (sized : IsSize m) (long : length s.core ≡ size m) (each : All IsPiece image) (lowest : All (λ r. lowest_declared ≤ r.from) image) (under : All (IsBelow (size m)) image) (below_end : start < size m)
     (hopper : s.hopper ≡ map Text (deck image start) ++ rest) where
@@ -119,52 +102,17 @@ module _ (image : List Run) (start m : ℕ) (s : State) (rest : List Entry) (siz
   ends : Ends start gs (panel_for_load s.panel) (4 * length gs + 1) s0 rest start
   ends = deck_loads gs start (panel_for_load s.panel) s0 rest (omega (arith, carded, long, below_end)) begins
 
-  -- each cell
-  abbrev old : ℕ → ℕ
-  old a = get_or s.core a 0
-
-  at_low : (a : ℕ) → a < 80 → get_or ends.core a 0 ≡ overlay_cell image start a (old a)
-  unfolding transfer_digits
-  at_low a l =
-      let none = nothing_low image lowest a (omega arith) in
-      let t1 : (nat_le 100 a && nat_lt a 400) ≡ false = grind (arith, nat_tests) in
-      let t2 : nat_lt a 80 ≡ true = grind (arith, nat_tests) in
-      let z : 0 + a ≡ a = omega arith in
-      rw (none, t1, t2) (rw z at (ends.transfer.cells a l))
-
-  over : (a : ℕ) → 80 ≤ a → get_or ends.core a 0 ≡ cell_or (declared_digit (other_pieces image) a) (cell_or (digit_at (table_piece image) a) (old a))
+  -- each cell above the transfer card
+  over : (a : ℕ) → 80 ≤ a → get_or ends.core a 0 ≡ cell_or (or_else (declared_digit (other_pieces image) a) (digit_at (table_piece image) a)) (get_or s.core a 0)
   over a h =
       ends.cells a h ∙ ap (cell_or (declared_digit gs a)) (laid_elsewhere card s.core 0 a (inr (let w : length card ≡ 80 = is_card.whole in omega arith)))
-      ∙ ap (λ (o : Option Digit). cell_or o (old a)) (deck_declares image a)
-      ∙ sym (cell_twice (declared_digit (other_pieces image) a) (digit_at (table_piece image) a) (old a))
-
-  at_table : (a : ℕ) → 100 ≤ a → a < 400 → get_or ends.core a 0 ≡ overlay_cell image start a (old a)
-  at_table a low high =
-      let t1 : (nat_le 100 a && nat_lt a 400) ≡ true = grind (arith, nat_tests) in
-      let o = rw (others_low image a high, table_there image a low high) at (over a (omega arith)) in
-      rw t1 (o ∙ table_cell (declared_digit image a) (standard_digit a))
-
-  at_other : (a : ℕ) → 80 ≤ a → declared_digit (other_pieces image) a ≡ declared_digit image a → digit_at (table_piece image) a ≡ None → (nat_le 100 a && nat_lt a 400) ≡ false → get_or ends.core a 0 ≡ overlay_cell image start a (old a)
-  at_other a h same none t1 =
-      let t2 : nat_lt a 80 ≡ false = grind (arith, nat_tests) in
-      let o = rw (same, none) at (over a h) in
-      rw (t1, t2) o
-
-  at_each : (a : ℕ) → get_or ends.core a 0 ≡ overlay_cell image start a (old a)
-  at_each a =
-      elim (cases_lt a 80) [
-        | inl l ↦ at_low a l
-        | inr h ↦ elim (cases_lt a 100) [
-          | inl l ↦ at_other a h (others_low image a (omega arith) ∙ sym (nothing_low image lowest a l)) (table_below image a l) (grind (arith, nat_tests))
-          | inr t ↦ elim (cases_lt a 400) [
-            | inl l ↦ at_table a t l
-            | inr u ↦ at_other a h (others_declare image a u) (table_above image a u) (grind (arith, nat_tests))
-          ]
-        ]
-      ]
+      ∙ ap (λ (o : Option Digit). cell_or o (get_or s.core a 0)) (deck_declares image a)
 
   core_is : ends.core ≡ overlay s.core image start
-  core_is = overlay_is image start s.core ends.core (ends.long ∙ carded) at_each
+  core_is =
+      overlaid_by image start s.core ends.core lowest (ends.long ∙ carded) ends.transfer
+      (λ a low high. rw (others_low image a high, table_there image a low high) at (over a (omega arith)))
+      (λ a h far. rw (table_beside image a far, or_none) at (over a h))
 
   steps_are : deck_steps (length (deck image start)) ≡ 4 * length gs + 1
   steps_are =
