@@ -62,7 +62,7 @@ impl<const M: u32> KnownEntry<M> {
     // An entry that knows nothing: no instruction has twelve cells that are 0.
     fn none() -> Self
         requires { IsSize M }
-        ensures { result.known ≡ Known.Other }
+        ensures { result.known ≡ Known.Nothing }
     {
         KnownEntry {
             ir: 0,
