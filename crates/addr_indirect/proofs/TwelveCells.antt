@@ -3,9 +3,9 @@ use Rattle.std.proofs.Common.{ℕ, ◌≡◌, ◌+◌, ◌%◌, ◌==◌, ◌<�
 use Rattle.std.specs.Prelude.{if◌then◌else◌, count_ones}
 use Rattle.digit_core.specs.declared.Digit.{Digit}
 use Rattle.digit_core.specs.declared.CellFault.TheVariants.{EvenParity, BadValue}
-use Rattle.digit_core.specs.Cell.{read_cell, is_value, digit_of_cell}
+use Rattle.digit_core.specs.Cell.{read_cell, is_cell_value, digit_of_cell}
 use Rattle.digit_core.specs.Packed.{six, HasCells}
-use Rattle.digit_core.specs.Search.{is_bad}
+use Rattle.digit_core.specs.Search.{is_bad_cell}
 use Rattle.addr_indirect.specs.Reading.{read_at, read_up}
 use Rattle.addr_indirect.specs.Twelve.{word_digit, digits_in, TwelveAreGood}
 use Rattle.addr_indirect.proofs.Windows.{reads_in, up_more, up_none}
@@ -19,7 +19,7 @@ tested false false d e h = cc
 -- a digit that is read is its cell's
 pub read_is : (c : ℕ) (d : Digit) → read_cell c ≡ Ok d → d ≡ digit_of_cell c
 unfolding read_cell
-read_is c d h = tested (count_ones c % 2 == 0) (is_value (c % 16)) (digit_of_cell c) d h
+read_is c d h = tested (count_ones c % 2 == 0) (is_cell_value (c % 16)) (digit_of_cell c) d h
 
 passed : (even good : Bool) (d : Digit) → (if even then true else not good) ≡ false → (if even then Err EvenParity else if good then Ok d else Err BadValue) ≡ Ok d
 passed true good d h = cc
@@ -27,9 +27,9 @@ passed false true d h = refl
 passed false false d h = cc
 
 -- a good cell is read as its digit
-good_reads : (c : ℕ) → is_bad c ≡ false → read_cell c ≡ Ok (digit_of_cell c)
+good_reads : (c : ℕ) → is_bad_cell c ≡ false → read_cell c ≡ Ok (digit_of_cell c)
 unfolding read_cell
-good_reads c h = passed (count_ones c % 2 == 0) (is_value (c % 16)) (digit_of_cell c) h
+good_reads c h = passed (count_ones c % 2 == 0) (is_cell_value (c % 16)) (digit_of_cell c) h
 
 module _ (core : List ℕ) (ir low high : ℕ) (good : TwelveAreGood low high) (inside : ir + 12 ≤ length core) (lows : HasCells low core ir 10) (highs : HasCells high core (ir + 10) 2) where
   low_reads : (a j : ℕ) → j < 10 → a ≡ ir + j → read_at core a ≡ Ok (word_digit low j)

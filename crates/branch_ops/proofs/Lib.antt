@@ -1,4 +1,4 @@
 pub mod Changes
 pub mod RowLemmas
-pub mod Known
-pub mod Fielded
+pub mod KnownOperands
+pub mod FieldOperands

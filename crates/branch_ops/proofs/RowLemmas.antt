@@ -5,7 +5,7 @@ use Rattle.digit_core.specs.Size.{size}
 use Rattle.addr_indirect.specs.declared.Stop.{Stop}
 use Rattle.addr_indirect.specs.declared.Instr.{Instr}
 use Rattle.addr_indirect.specs.Fetch.{fetch}
-use Rattle.addr_indirect.proofs.Inside.{fetch_inside}
+use Rattle.addr_indirect.proofs.ReadInCore.{fetch_inside}
 use Rattle.indicators.specs.declared.Panel.{Panel}
 use Rattle.indicators.specs.Lamps.{panel_after_test, test_lamps}
 use Rattle.traces.specs.Trace.{Trace, ◌>>=◌}

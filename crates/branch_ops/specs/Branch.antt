@@ -26,12 +26,12 @@ use Rattle.instruction_table.specs.declared.BranchOp.{BranchOp}
 use Rattle.instruction_table.specs.declared.BranchOp.TheVariants.{Bt, Bb, Bd, Bnf, Bnr, Bng, Bi, Bni, B}
 
 -- the branch of an opcode: the operation of its row of the table of instructions, where that is a branch
-abbrev pub branch_by : Op → Option BranchOp
-branch_by (Branch b) = Some b
-branch_by o = None
+abbrev pub branch_of_op : Op → Option BranchOp
+branch_of_op (Branch b) = Some b
+branch_of_op o = None
 
 abbrev pub branch_in_row : Option InstructionRow → Option BranchOp
-branch_in_row (Some r) = branch_by (op_of r)
+branch_in_row (Some r) = branch_of_op (op_of r)
 branch_in_row None = None
 
 abbrev pub branch_of : ℕ → Option BranchOp

@@ -30,9 +30,9 @@ digit_with_above (Some v) None = None
 digit_with_above (Some v) (Some above) = Some (v + 10 * above)
 
 -- the number of n of an instruction's digits, from its digit number k downwards
-unfoldable pub number_in : Instr → ℕ → ℕ → Option ℕ
-number_in i k zero = Some 0
-number_in i k (suc n) = digit_with_above (decimal_part i k) (number_in i (k - 1) n)
+unfoldable pub part_number : Instr → ℕ → ℕ → Option ℕ
+part_number i k zero = Some 0
+part_number i k (suc n) = digit_with_above (decimal_part i k) (part_number i (k - 1) n)
 
 -- what a field with this number holds, whose units digit has a flag or not
 abbrev pub kind_of : Option ℕ → Bool → FieldKind
@@ -47,7 +47,7 @@ number_or_zero (Some v) = v
 
 -- the field of five digits whose units are an instruction's digit number k: its number, and what it holds
 abbrev pub field_from : Instr → ℕ → ℕ × FieldKind
-field_from i k = (number_or_zero (number_in i k 5), kind_of (number_in i k 5) (slice_index_or i.cells k (unflagged_digit 0)).flag)
+field_from i k = (number_or_zero (part_number i k 5), kind_of (part_number i k 5) (slice_index_or i.cells k (unflagged_digit 0)).flag)
 
 -- P's field, whose units are P6, and Q's, whose units are Q11
 abbrev pub both_fields : Instr → Bool → MayStore → Fields

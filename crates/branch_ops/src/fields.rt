@@ -2,7 +2,7 @@
 ghost use Rattle.std.specs.Prelude.{◌≡◌, ◌+◌, ◌<◌, ◌≤◌, ◌%◌, IfOk, true};
 ghost use Rattle.digit_core.specs.Size.{size};
 ghost use Rattle.digit_core.specs.declared.TheConstants.{MOST_POSITIONS};
-ghost use Rattle.branch_ops.specs.Fields.{ComeTo, decimal_part, field_from, fields_used, is_chained, number_in, operand_from, operands_at, operands_from};
+ghost use Rattle.branch_ops.specs.Fields.{ComeTo, decimal_part, field_from, fields_used, is_chained, part_number, operand_from, operands_at, operands_from};
 ghost use Rattle.branch_ops.specs.Operands.{operands_of_branch, uses_by};
 
 use crate::rows::BranchOperands;
@@ -245,11 +245,11 @@ fn field(i: &Instr, k: usize) -> (u32, FieldKind)
 }
 
 // The number of an instruction's five digits from number `k` downwards, where they are decimal.
-#[tactic(auto, unfolding(crate::specs::Fields::number_in))]
+#[tactic(auto, unfolding(crate::specs::Fields::part_number))]
 fn number(i: &Instr, k: usize) -> Option<u32>
     requires units { 4 ≤ k }
     requires inside { k < 12 }
-    ensures { result ≡ number_in i.now k 5 }
+    ensures { result ≡ part_number i.now k 5 }
 {
     let a = decimal(i, k)?;
     let b = decimal(i, k - 1)?;

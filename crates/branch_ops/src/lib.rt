@@ -9,7 +9,7 @@
 #![tactic(auto)]
 
 ghost use Rattle.std.specs.Prelude.{◌≡◌};
-ghost use Rattle.branch_ops.specs.Branch.{branch_by, branch_of};
+ghost use Rattle.branch_ops.specs.Branch.{branch_of_op, branch_of};
 
 mod fields;
 mod rows;
@@ -36,14 +36,14 @@ pub fn branch_of(code: u8) -> Option<BranchOp>
     ensures { result ≡ branch_of code }
 {
     match instruction_of(code) {
-        Some(InstructionRow(_, op, _, _)) => branch_by(op),
+        Some(InstructionRow(_, op, _, _)) => branch_of_op(op),
         None => None,
     }
 }
 
 // The branch that an operation is.
-fn branch_by(op: Op) -> Option<BranchOp>
-    ensures { result ≡ branch_by op }
+fn branch_of_op(op: Op) -> Option<BranchOp>
+    ensures { result ≡ branch_of_op op }
 {
     match op {
         Op::Branch(b) => Some(b),

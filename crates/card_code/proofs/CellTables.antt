@@ -7,7 +7,7 @@ use Rattle.digit_core.specs.declared.Digit.{Digit}
 use Rattle.digit_core.specs.declared.CellFault.{CellFault}
 use Rattle.digit_core.specs.Cell.{cell, read_cell}
 use Rattle.digit_core.specs.Packed.{six}
-use Rattle.digit_core.specs.Search.{is_bad}
+use Rattle.digit_core.specs.Search.{is_bad_cell}
 use Rattle.digit_core.proofs.Below.{same_below}
 use Rattle.traces.specs.Trace.{map_answer}
 use Rattle.card_code.specs.Characters.{num_of, object_digit, object_char, punch_num, digit_in, char_in}
@@ -23,17 +23,17 @@ entry_of None = 0
 -- a table has the cells of these digits
 pub record HasCells (digit_of : ℕ → Option Digit) (table : List ℕ) : Type 0 where
   pub entries : (c : ℕ) → c < 256 → get_or table c 0 ≡ entry_of (digit_of c)
-  pub nones : (c : ℕ) → c < 256 → (if is_bad (get_or table c 0) then digit_of c else None) ≡ None
+  pub nones : (c : ℕ) → c < 256 → (if is_bad_cell (get_or table c 0) then digit_of c else None) ≡ None
 
 -- no good cell is 0
-zero_bad : is_bad 0 ≡ true
+zero_bad : is_bad_cell 0 ≡ true
 unfolding ones
 zero_bad = refl
 
 -- by it a word's cells are those of the digits
-some_cell : (o : Option Digit) (x : ℕ) → entry_of o ≡ x → is_bad x ≡ false → option_map cell o ≡ Some x
+some_cell : (o : Option Digit) (x : ℕ) → entry_of o ≡ x → is_bad_cell x ≡ false → option_map cell o ≡ Some x
 some_cell (Some d) x e good = ap Some e
-some_cell None x e good = let bad : is_bad x ≡ true = ap is_bad (sym e) ∙ zero_bad in cc
+some_cell None x e good = let bad : is_bad_cell x ≡ true = ap is_bad_cell (sym e) ∙ zero_bad in cc
 
 module _ (digit_of : ℕ → Option Digit) (table : List ℕ) (has : HasCells digit_of table) (text : List ℕ) (bytes : (k : ℕ) → get_or text k 0 < 256) where
   cells_by : (w : ℕ) → AreEntries table text w → AreCells digit_of text w
@@ -56,7 +56,7 @@ char_of f (Err e) = 128
 -- a table has these characters of the cells
 pub record HasChars (f : Digit → ℕ) (table : List ℕ) : Type 0 where
   pub entries : (c : ℕ) → c < 64 → get_or table c 0 ≡ char_of f (read_cell c)
-  pub bads : (c : ℕ) → c < 64 → (if nat_le 128 (get_or table c 0) then is_bad c else true) ≡ true
+  pub bads : (c : ℕ) → c < 64 → (if nat_le 128 (get_or table c 0) then is_bad_cell c else true) ≡ true
 
 ok_char : (f : Digit → ℕ) (r : Result Digit CellFault) (x : ℕ) → x ≡ char_of f r → x < 128 → map_answer f r ≡ Ok x
 ok_char f (Ok d) x e below = ap Ok (sym e)
@@ -90,14 +90,14 @@ pub object_cells : HasCells object_digit OBJECT_CELLS
 unfolding digit_in cell ones
 object_cells = record {
   entries = λ c below. same_below (λ c. get_or OBJECT_CELLS c 0) (λ c. entry_of (object_digit c)) 256 c 0 refl below;
-  nones = λ c below. same_below (λ c. if is_bad (get_or OBJECT_CELLS c 0) then object_digit c else None) (λ c. None) 256 c None refl below;
+  nones = λ c below. same_below (λ c. if is_bad_cell (get_or OBJECT_CELLS c 0) then object_digit c else None) (λ c. None) 256 c None refl below;
 }
 
 pub object_chars : HasChars object_char OBJECT_CHARS
 unfolding char_in read_cell ones
 object_chars = record {
   entries = λ c below. same_below (λ c. get_or OBJECT_CHARS c 0) (λ c. char_of object_char (read_cell c)) 64 c 0 refl below;
-  bads = λ c below. same_below (λ c. if nat_le 128 (get_or OBJECT_CHARS c 0) then is_bad c else true) (λ c. true) 64 c true refl below;
+  bads = λ c below. same_below (λ c. if nat_le 128 (get_or OBJECT_CHARS c 0) then is_bad_cell c else true) (λ c. true) 64 c true refl below;
 }
 
 -- those of characters that are read numerically, and that are punched
@@ -105,14 +105,14 @@ pub num_cells : HasCells num_of NUM_CELLS
 unfolding digit_in cell ones
 num_cells = record {
   entries = λ c below. same_below (λ c. get_or NUM_CELLS c 0) (λ c. entry_of (num_of c)) 256 c 0 refl below;
-  nones = λ c below. same_below (λ c. if is_bad (get_or NUM_CELLS c 0) then num_of c else None) (λ c. None) 256 c None refl below;
+  nones = λ c below. same_below (λ c. if is_bad_cell (get_or NUM_CELLS c 0) then num_of c else None) (λ c. None) 256 c None refl below;
 }
 
 pub punch_chars : HasChars punch_num PUNCH_CHARS
 unfolding char_in read_cell ones
 punch_chars = record {
   entries = λ c below. same_below (λ c. get_or PUNCH_CHARS c 0) (λ c. char_of punch_num (read_cell c)) 64 c 0 refl below;
-  bads = λ c below. same_below (λ c. if nat_le 128 (get_or PUNCH_CHARS c 0) then is_bad c else true) (λ c. true) 64 c true refl below;
+  bads = λ c below. same_below (λ c. if nat_le 128 (get_or PUNCH_CHARS c 0) then is_bad_cell c else true) (λ c. true) 64 c true refl below;
 }
 
 -- each entry is a cell, good or not

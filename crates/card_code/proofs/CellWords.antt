@@ -4,7 +4,7 @@ use Rattle.std.proofs.lemmas.Nat.{or_comm, or_lt, or_shifted, le_or_l, le_or_r, 
 use Rattle.std.proofs.lemmas.List.{get_or-set_same, get_or-set_other}
 use Rattle.std.proofs.lemmas.Bool.{cases_eq, cases_lt}
 use Rattle.digit_core.specs.Packed.{six}
-use Rattle.digit_core.specs.Search.{is_bad}
+use Rattle.digit_core.specs.Search.{is_bad_cell}
 use Rattle.digit_core.specs.Within.{AreGood, HasBad}
 use Rattle.digit_core.proofs.Sixes.{six_cat_low, six_cat_high}
 use Rattle.card_code.specs.Words.{AreEntries, HasNoEntry, AreCharEntries, HasNoChar}
@@ -70,7 +70,7 @@ pub lacks_one : (table text : List ℕ) (word n : ℕ) → 10 ≤ n → length t
 lacks_one table text word n least ten bad joined = record {
   at = bad.place;
   within = omega (arith, bad.ten);
-  none = ap is_bad (joined.cells bad.place (omega (arith, bad.ten))) ∙ bad.bad;
+  none = ap is_bad_cell (joined.cells bad.place (omega (arith, bad.ten))) ∙ bad.bad;
 }
 
 -- one of the first n cells has no character

@@ -3,7 +3,7 @@ use Rattle.std.proofs.Common.{◌≡◌, ℕ, ◌<◌, refl, sym, ◌∙◌, ap,
 use Rattle.std.proofs.lemmas.Bool.Decides.{nat_tests}
 use Rattle.std.specs.Prelude.{Bool, true, false, if◌then◌else◌, Option, IfSome}
 use Rattle.digit_core.specs.declared.Digit.{Digit}
-use Rattle.digit_core.specs.Cell.{IsGood, is_value}
+use Rattle.digit_core.specs.Cell.{IsGood, is_cell_value}
 use Rattle.digit_core.proofs.Below.{same_below}
 use Rattle.card_code.specs.Characters.{num_of, object_digit, object_char, punch_num, digit_in, char_in}
 use Rattle.card_code.specs.Words.{digit_entry, char_entry}
@@ -15,7 +15,7 @@ digit flag value = record { flag = flag; value = value }
 
 -- a digit is one that a cell can hold
 abbrev is_good : Option Digit → Bool
-is_good (Some d) = is_value d.value
+is_good (Some d) = is_cell_value d.value
 is_good None = true
 
 good_of : (o : Option Digit) → is_good o ≡ true → IfSome o IsGood
@@ -46,7 +46,7 @@ num_good c o below is = good_of o (ap is_good is ∙ same_below (λ c. is_good (
 
 -- a character by flag and value, at the values that a cell can hold
 abbrev of_parts : (Digit → ℕ) → Bool → ℕ → ℕ
-of_parts f flag v = if is_value v then f (digit flag v) else 0
+of_parts f flag v = if is_cell_value v then f (digit flag v) else 0
 
 -- the tables have the characters at each flag and value
 object_each : (flag : Bool) (v : ℕ) → v < 16 → of_parts object_char flag v ≡ of_parts (char_entry OBJECT_CHARS) flag v

@@ -9,7 +9,7 @@ use Rattle.traces.specs.Change.{Change, Changed, core_after_changes}
 use Rattle.traces.specs.Break.{Break, Stops}
 use Rattle.card_code.specs.Entries.{Entry, behind}
 use Rattle.card_code.specs.TextIn.{Changes, desk_after}
-use Rattle.card_code.specs.Feed.{Feed, Station, Gives, Lacks, ReadsAll, take_next, left_at, desk_at, station}
+use Rattle.card_code.specs.Feed.{Feed, Station, GivesEntry, Lacks, ReadsAll, take_next, left_at, desk_at, station}
 use Rattle.card_code.proofs.TakenIn.{changes_in, behind_told, same_told}
 
 module _ {S A : Type 0} (feed : Feed S A) (stored : A → Trace Change ⊤ Stop) where
@@ -24,7 +24,7 @@ module _ {S A : Type 0} (feed : Feed S A) (stored : A → Trace Change ⊤ Stop)
       rw front (ap (λ (x : Result ⊤ Stop). map_reason Stops x) (sym changed.answers), desk)
 
   -- so the call's answer and what it leaves are those of the reading
-  pub entry_read : (old new : Station S) (what : A) (answer : Result ⊤ Stop) → Gives feed old.from new.from old.seen new.seen what → Changed old.core old.panel (stored what) new.core new.panel answer
+  pub entry_read : (old new : Station S) (what : A) (answer : Result ⊤ Stop) → GivesEntry feed old.from new.from old.seen new.seen what → Changed old.core old.panel (stored what) new.core new.panel answer
       → ReadsAll feed (λ es. take_next feed.next es stored) old new (map_reason Stops answer)
   entry_read old new what answer gives changed =
       let read = read_in old new what answer gives.given.given gives.given.holds changed in

@@ -3,7 +3,7 @@ use Rattle.std.proofs.Common.{◌≡◌, ℕ, ◌<◌, ◌≤◌, List, [], ◌�
 use Rattle.std.proofs.lemmas.List.{append-nil}
 use Rattle.std.specs.Prelude.{Option, Some, None, option_map, IfSome}
 use Rattle.outside_io.specs.World.{BeginsWith}
-use Rattle.outside_io.specs.Lines.{line_of, behind_line, first_text, without_return, HasNoEnd}
+use Rattle.outside_io.specs.Lines.{first_line_of, behind_line, first_text, without_return, HasNoEnd}
 use Rattle.outside_io.proofs.LineLemmas.{line_of-append, behind_line-append, length-without_return}
 
 -- bytes go over from what the unit has left to what is pending
@@ -20,8 +20,8 @@ end_some held ahead None = tt
 end_some held ahead (Some all) = omega (arith, length-append (held ++ 10 ∷ ahead) all, length-append held (10 ∷ ahead))
 
 -- what is held is the first line
-end_line : (held ahead all : List ℕ) → HasNoEnd held → line_of ((held ++ 10 ∷ ahead) ++ all) ≡ held
-end_line held ahead all none = ap line_of (append_assoc held (10 ∷ ahead) all) ∙ line_of-append held (10 ∷ (ahead ++ all)) none ∙ append-nil held
+end_line : (held ahead all : List ℕ) → HasNoEnd held → first_line_of ((held ++ 10 ∷ ahead) ++ all) ≡ held
+end_line held ahead all none = ap first_line_of (append_assoc held (10 ∷ ahead) all) ∙ line_of-append held (10 ∷ (ahead ++ all)) none ∙ append-nil held
 
 -- without a CR at its end it is the first text
 pub end_text : (held ahead : List ℕ) (left : Option (List ℕ)) → HasNoEnd held → IfSome (option_map (λ l. (held ++ 10 ∷ ahead) ++ l) left) (λ rest. without_return held ≡ first_text rest)
@@ -41,8 +41,8 @@ last_some held None some = tt
 last_some held (Some all) some = omega (arith, length-append held all)
 
 -- what is held is the first line
-last_line : (held all : List ℕ) → all ≡ [] → HasNoEnd held → line_of (held ++ all) ≡ held
-last_line held all empty none = line_of-append held all none ∙ ap (λ (x : List ℕ). held ++ line_of x) empty ∙ append-nil held
+last_line : (held all : List ℕ) → all ≡ [] → HasNoEnd held → first_line_of (held ++ all) ≡ held
+last_line held all empty none = line_of-append held all none ∙ ap (λ (x : List ℕ). held ++ first_line_of x) empty ∙ append-nil held
 
 -- without a CR at its end it is the first text
 pub last_text : (held : List ℕ) (left : Option (List ℕ)) → HasNoEnd held → IfSome left (λ all. all ≡ []) → IfSome (option_map (λ l. held ++ l) left) (λ rest. without_return held ≡ first_text rest)
@@ -65,8 +65,8 @@ nothing_left held (Some all) none empty = ap (λ (x : List ℕ). x ++ all) none 
 pub over_text : (held more : List ℕ) (left : Option (List ℕ)) → HasNoEnd held → 82 ≤ length held → IfSome (option_map (λ l. (held ++ more) ++ l) left) (λ rest. 80 < length (first_text rest))
 over_text held more None none much = tt
 over_text held more (Some all) none much =
-    let line : line_of ((held ++ more) ++ all) ≡ held ++ line_of (more ++ all) = ap line_of (append_assoc held more all) ∙ line_of-append held (more ++ all) none in
-    omega (arith, ap length line, length-append held (line_of (more ++ all)), length-without_return (line_of ((held ++ more) ++ all)))
+    let line : first_line_of ((held ++ more) ++ all) ≡ held ++ first_line_of (more ++ all) = ap first_line_of (append_assoc held more all) ∙ line_of-append held (more ++ all) none in
+    omega (arith, ap length line, length-append held (first_line_of (more ++ all)), length-without_return (first_line_of ((held ++ more) ++ all)))
 
 -- a text over 80 bytes is the first text
 pub long_told : (rest : Option (List ℕ)) (text : List ℕ) → 80 < length text → IfSome rest (λ r. text ≡ first_text r) → IfSome rest (λ r. 80 < length (first_text r))

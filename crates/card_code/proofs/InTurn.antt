@@ -5,7 +5,7 @@ use Rattle.std.proofs.lemmas.Option.{IfSome_then}
 use Rattle.std.specs.Prelude.{Option, Some, None, option_map, IfSome, ◌⊎◌, ◌||◌, ◌==◌, if◌then◌else◌, get_or}
 use Rattle.outside_io.specs.declared.host.Unit as unit
 use Rattle.outside_io.specs.World.{World, Asked, Readings, one_reading, asked_after, Seen, Goes, Gets, Ends, world_after_take}
-use Rattle.outside_io.specs.Lines.{line_of, behind_line, first_text, without_return, HasNoEnd}
+use Rattle.outside_io.specs.Lines.{first_line_of, behind_line, first_text, without_return, HasNoEnd}
 use Rattle.outside_io.proofs.Worlds.{same_unit-refl}
 use Rattle.outside_io.proofs.LineLemmas.{line_of-append, behind_line-append, length-without_return}
 use Rattle.card_code.specs.declared.lines.Lines.{Lines}
@@ -162,7 +162,7 @@ turn_end last now new w ends got holds is handed turn =
 
 -- more is held than a line can have
 over_first : (held more : List ℕ) → HasNoEnd held → 82 ≤ length held → 80 < length (first_text (held ++ more))
-over_first held more none much = omega (arith, ap length (line_of-append held more none), length-append held (line_of more), length-without_return (line_of (held ++ more)))
+over_first held more none much = omega (arith, ap length (line_of-append held more none), length-append held (first_line_of more), length-without_return (first_line_of (held ++ more)))
 
 -- There are too many bytes.
 pub turn_over : (now new : Lines) (w : World) (got : LineAnswer) → length now.held.items ≡ 82 → HandsOut now new false got → IsInTurn new w

@@ -6,7 +6,7 @@ pub mod CellTexts
 pub mod PairTables
 pub mod PairCells
 pub mod RoundTrips
-pub mod Filled
+pub mod FilledCards
 pub mod FirstLine
 pub mod Readers
 pub mod WholeHeld

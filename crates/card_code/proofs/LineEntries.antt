@@ -11,8 +11,8 @@ use Rattle.card_code.specs.declared.lines.More.{More}
 use Rattle.card_code.specs.declared.lines.More.TheVariants as more
 use Rattle.outside_io.specs.Lines.{behind_line, first_text, without_return}
 use Rattle.card_code.specs.LineText.{text_of_line}
-use Rattle.card_code.specs.Entries.{Entry, Text, Long, entry, entries, entries_of_unit, behind, is_empty}
-use Rattle.card_code.specs.Reader.{unit_of, lines_handed_out, rest_of, entries_left, Moves, Stays, NextLine, HasMore, Fronts, HasNone, HasSome, NextEntry, MoreEntries}
+use Rattle.card_code.specs.Entries.{Entry, Text, Long, entry, entries, entries_of_unit, behind, has_none_left}
+use Rattle.card_code.specs.Reader.{unit_of, lines_handed_out, lines_rest, entries_left, AsksUnit, Stays, NextLine, HasMore, Fronts, HasNone, HasSome, NextEntry, MoreEntries}
 use Rattle.outside_io.proofs.WholeLines.{lines_of-front}
 
 -- the entries of some bytes are the first line's and those of what stands behind it
@@ -64,45 +64,45 @@ module _ (u : unit.Unit) (n : ℕ) where
   -- some byte is some entry
   some_told : (rest : Option (List ℕ)) → IfSome rest (λ r. 0 < length r) → HasSome (option_map (entries_of_unit u n) rest)
   some_told None some = tt
-  some_told (Some bytes) some = ap is_empty (entries_front u n bytes some)
+  some_told (Some bytes) some = ap has_none_left (entries_front u n bytes some)
 
 module _ (old new : Lines) (before after : Seen) where
   -- the entries by the unit, the number and the bytes that are left
-  entries_by : (n : ℕ) (rest : Option (List ℕ)) → unit_of new ≡ unit_of old → lines_handed_out new ≡ n → rest_of new after.world ≡ rest → entries_left new after.world ≡ option_map (entries_of_unit (unit_of old) n) rest
+  entries_by : (n : ℕ) (rest : Option (List ℕ)) → unit_of new ≡ unit_of old → lines_handed_out new ≡ n → lines_rest new after.world ≡ rest → entries_left new after.world ≡ option_map (entries_of_unit (unit_of old) n) rest
   entries_by n rest unit_is number_is rest_is =
-      ap (λ (u : unit.Unit). option_map (entries_of_unit u (lines_handed_out new)) (rest_of new after.world)) unit_is
-      ∙ ap (λ (m : ℕ). option_map (entries_of_unit (unit_of old) m) (rest_of new after.world)) number_is
+      ap (λ (u : unit.Unit). option_map (entries_of_unit u (lines_handed_out new)) (lines_rest new after.world)) unit_is
+      ∙ ap (λ (m : ℕ). option_map (entries_of_unit (unit_of old) m) (lines_rest new after.world)) number_is
       ∙ ap (λ (r : Option (List ℕ)). option_map (entries_of_unit (unit_of old) n) r) rest_is
 
   -- where nothing of the meaning changes, the entries stay
   stays_left : Stays old new before after → entries_left new after.world ≡ entries_left old before.world
-  stays_left stays = entries_by (lines_handed_out old) (rest_of old before.world) stays.moves.unit stays.number stays.rest
+  stays_left stays = entries_by (lines_handed_out old) (lines_rest old before.world) stays.moves.unit stays.number stays.rest
 
   -- what a reading of a line says in bytes, it says in entries
   pub next_entry : (got : LineAnswer) → NextLine old new before after got → NextEntry (unit_of old) (entries_left old before.world) (entries_left new after.world) before after got
   next_entry (answer.Line line) gives = (
-    entries_by (one_more (lines_handed_out old)) (option_map behind_line (rest_of old before.world)) gives.moves.unit gives.number gives.rest ∙ behind_told (unit_of old) (lines_handed_out old) (rest_of old before.world) gives.some,
-    front_told (unit_of old) (lines_handed_out old) (rest_of old before.world) (text_of_line line) gives.some gives.short gives.is_text,
+    entries_by (one_more (lines_handed_out old)) (option_map behind_line (lines_rest old before.world)) gives.moves.unit gives.number gives.rest ∙ behind_told (unit_of old) (lines_handed_out old) (lines_rest old before.world) gives.some,
+    front_told (unit_of old) (lines_handed_out old) (lines_rest old before.world) (text_of_line line) gives.some gives.short gives.is_text,
   )
-  next_entry answer.End ended = (stays_left ended.stays, none_told (unit_of old) (lines_handed_out old) (rest_of old before.world) ended.none)
-  next_entry (answer.Jam number) jams = (stays_left jams.stays, jam_told (unit_of old) (lines_handed_out old) (rest_of old before.world) number jams.number_is jams.long)
+  next_entry answer.End ended = (stays_left ended.stays, none_told (unit_of old) (lines_handed_out old) (lines_rest old before.world) ended.none)
+  next_entry (answer.Jam number) jams = (stays_left jams.stays, jam_told (unit_of old) (lines_handed_out old) (lines_rest old before.world) number jams.number_is jams.long)
   next_entry answer.Failed fails = (stays_left fails.stays, fails.rose)
 
   -- and so does the look ahead
   pub more_entries : (got : More) → HasMore old new before after got → MoreEntries (entries_left old before.world) (entries_left new after.world) before after got
-  more_entries more.Yes left = (stays_left left.stays, some_told (unit_of old) (lines_handed_out old) (rest_of old before.world) left.some)
-  more_entries more.No ended = (stays_left ended.stays, none_told (unit_of old) (lines_handed_out old) (rest_of old before.world) ended.none)
+  more_entries more.Yes left = (stays_left left.stays, some_told (unit_of old) (lines_handed_out old) (lines_rest old before.world) left.some)
+  more_entries more.No ended = (stays_left ended.stays, none_told (unit_of old) (lines_handed_out old) (lines_rest old before.world) ended.none)
   more_entries more.Failed fails = (stays_left fails.stays, fails.rose)
 
   -- bytes were taken from that unit alone
-  pub next_moves : (got : LineAnswer) → NextLine old new before after got → Moves old new before after
+  pub next_moves : (got : LineAnswer) → NextLine old new before after got → AsksUnit old new before after
   next_moves (answer.Line line) gives = gives.moves
   next_moves answer.End ended = ended.stays.moves
   next_moves (answer.Jam number) jams = jams.stays.moves
   next_moves answer.Failed fails = fails.stays.moves
 
   -- by the look ahead too
-  pub more_moves : (got : More) → HasMore old new before after got → Moves old new before after
+  pub more_moves : (got : More) → HasMore old new before after got → AsksUnit old new before after
   more_moves more.Yes left = left.stays.moves
   more_moves more.No ended = ended.stays.moves
   more_moves more.Failed fails = fails.stays.moves

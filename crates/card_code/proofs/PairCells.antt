@@ -7,7 +7,7 @@ use Rattle.std.specs.Prelude.{true, nat_le, nat_lt, if◌then◌else◌, Option,
 use lib.Count.{ones}
 use Rattle.digit_core.specs.Cell.{cell}
 use Rattle.digit_core.specs.Packed.{six}
-use Rattle.digit_core.specs.Search.{is_bad}
+use Rattle.digit_core.specs.Search.{is_bad_cell}
 use Rattle.digit_core.proofs.Below.{same_below}
 use Rattle.digit_core.proofs.Sixes.{six_cat_low, six_cat_high}
 use Rattle.card_code.specs.Pairs.{Pair, alpha_of, pair_in}
@@ -112,7 +112,7 @@ unfolding pair_in cell ones
 has_cells c below = same_below cells_or_halves (λ c. halves (of_table c)) 256 c None refl below
 
 abbrev bad_half : ℕ → Bool
-bad_half c = if nat_lt (of_table c) 4096 then is_bad (of_table c % 64) || is_bad (of_table c / 64) else false
+bad_half c = if nat_lt (of_table c) 4096 then is_bad_cell (of_table c % 64) || is_bad_cell (of_table c / 64) else false
 
 no_bad_half : (c : ℕ) → c < 256 → bad_half c ≡ false
 unfolding ones
@@ -151,7 +151,7 @@ module _ (text : List ℕ) (bytes : (k : ℕ) → get_or text k 0 < 256) where
     pair_at : option_map pair_cells (alpha_of (get_or text j 0)) ≡ Some (six w (2 * j), six w (2 * j + 1))
     pair_at = (rw in_table at (has_cells (get_or text j 0) (bytes j))) ∙ rw (low_half, high_half) refl
 
-    both_good : (is_bad (six w (2 * j)) || is_bad (six w (2 * j + 1))) ≡ false
+    both_good : (is_bad_cell (six w (2 * j)) || is_bad_cell (six w (2 * j + 1))) ≡ false
     both_good = rw (in_table, low_half, high_half) at (no_bad_half (get_or text j 0) (bytes j))
 
   cells_by : (w : ℕ) → ArePairEntries PAIR_CELLS text w → ArePairCells text w
@@ -159,8 +159,8 @@ module _ (text : List ℕ) (bytes : (k : ℕ) → get_or text k 0 < 256) where
     cells = pair_at w are;
     good = λ k below.
         elim (cases_eq (k % 2) 0) [
-          | inl even ↦ let at : 2 * (k / 2) ≡ k = omega arith in rw at at (first_false (is_bad (six w (2 * (k / 2)))) (is_bad (six w (2 * (k / 2) + 1))) (both_good w are (k / 2) (omega arith)))
-          | inr odd ↦ let at : 2 * (k / 2) + 1 ≡ k = omega arith in rw at at (second_false (is_bad (six w (2 * (k / 2)))) (is_bad (six w (2 * (k / 2) + 1))) (both_good w are (k / 2) (omega arith)))
+          | inl even ↦ let at : 2 * (k / 2) ≡ k = omega arith in rw at at (first_false (is_bad_cell (six w (2 * (k / 2)))) (is_bad_cell (six w (2 * (k / 2) + 1))) (both_good w are (k / 2) (omega arith)))
+          | inr odd ↦ let at : 2 * (k / 2) + 1 ≡ k = omega arith in rw at at (second_false (is_bad_cell (six w (2 * (k / 2)))) (is_bad_cell (six w (2 * (k / 2) + 1))) (both_good w are (k / 2) (omega arith)))
         ];
   }
 

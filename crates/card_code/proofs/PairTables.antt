@@ -4,7 +4,7 @@ use Rattle.std.proofs.lemmas.Bool.{false≢true}
 use Rattle.std.proofs.lemmas.Bool.Decides.{nat_tests}
 use Rattle.std.proofs.lemmas.Nat.{div-mul-add, mod-mul-add}
 use Rattle.std.specs.Prelude.{◌+◌, ◌*◌, ◌/◌, ◌%◌, ◌==◌, ◌&&◌, nat_lt, Option, IfSome, option_map}
-use Rattle.digit_core.specs.Cell.{is_value}
+use Rattle.digit_core.specs.Cell.{is_cell_value}
 use Rattle.digit_core.proofs.Below.{same_below}
 use Rattle.card_code.specs.Pairs.{PairEntry, IsGoodPair, alpha_of, punch_alpha, pair_in, pair_table, digits, pair_char_in}
 use Rattle.card_code.specs.Words.{char_of_entry, pair_entry, pair_char_entry}
@@ -20,7 +20,7 @@ pair_found c o below is = is ∙ pair_is c below
 
 -- and cells can hold them
 abbrev is_good : Option (ℕ × ℕ) → Bool
-is_good (Some pair) = is_value pair.0 && is_value pair.1
+is_good (Some pair) = is_cell_value pair.0 && is_cell_value pair.1
 is_good None = true
 
 first_true : (a b : Bool) → (a && b) ≡ true → a ≡ true
@@ -32,7 +32,7 @@ second_true true b both = both
 second_true false b both = absurd (false≢true both)
 
 good_of : (o : Option (ℕ × ℕ)) → is_good o ≡ true → IfSome o IsGoodPair
-good_of (Some pair) good = (first_true (is_value pair.0) (is_value pair.1) good, second_true (is_value pair.0) (is_value pair.1) good)
+good_of (Some pair) good = (first_true (is_cell_value pair.0) (is_cell_value pair.1) good, second_true (is_cell_value pair.0) (is_cell_value pair.1) good)
 good_of None good = tt
 
 pub pair_good : (c : ℕ) (o : Option (ℕ × ℕ)) → c < 256 → o ≡ pair_entry PAIR_CELLS c → IfSome o IsGoodPair

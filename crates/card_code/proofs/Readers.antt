@@ -9,7 +9,7 @@ use Rattle.card_code.specs.declared.lines.LineAnswer.{LineAnswer}
 use Rattle.card_code.specs.declared.lines.LineAnswer.TheVariants as answer
 use Rattle.card_code.specs.LineText.{text_of_line}
 use Rattle.outside_io.specs.Lines.{behind_line, first_text, without_return, HasNoEnd}
-use Rattle.card_code.specs.Reader.{unit_of, lines_handed_out, bytes_held, rest_of, Stays, NextLine, HasEnded, HostFails, IsLeft}
+use Rattle.card_code.specs.Reader.{unit_of, lines_handed_out, bytes_held, lines_rest, Stays, NextLine, HasEnded, HostFails, IsLeft}
 use Rattle.card_code.specs.Holding.{HoldsMore, HandsOut}
 use Rattle.outside_io.proofs.LineLemmas.{length-without_return}
 use Rattle.card_code.proofs.FirstLine.{rest_moves, end_some, end_text, end_behind, last_some, last_text, last_behind, nothing_left, over_text, long_told, text_told}
@@ -51,7 +51,7 @@ reads_start start before = record {
 
 module _ (start now : Lines) (before after : Seen) (reads : Reads start now before after) where
   -- the bytes that are left are the same
-  pub rest_same : rest_of now after.world ≡ rest_of start before.world
+  pub rest_same : lines_rest now after.world ≡ lines_rest start before.world
   rest_same =
       ap (λ u. option_map (λ l. bytes_held now ++ l) (after.world.left u)) reads.unit
       ∙ ap (λ (w : World). option_map (λ l. bytes_held now ++ l) (w.left (unit_of start))) reads.read.goes.world
@@ -63,7 +63,7 @@ module _ (start now : Lines) (before after : Seen) (reads : Reads start now befo
   stays_of = record { moves = record { unit = reads.unit; taken = reads.taken; goes = reads.read.goes }; rest = rest_same; number = reads.number }
 
   -- what holds of the rest now held of it at the start
-  back : (P : List ℕ → Type 0) → IfSome (rest_of now after.world) P → IfSome (rest_of start before.world) P
+  back : (P : List ℕ → Type 0) → IfSome (lines_rest now after.world) P → IfSome (lines_rest start before.world) P
   back P holds = subst (λ (rest : Option (List ℕ)). IfSome rest P) rest_same holds
 
   -- another reader of the same unit and number
@@ -111,9 +111,9 @@ module _ (start now : Lines) (before after : Seen) (reads : Reads start now befo
 -- What is handed out by a reader that went on from a start.
 pub record Ready (start now : Lines) (before after : Seen) (left : List ℕ) : Type 0 where
   pub reads : Reads start now before after
-  pub some : IfSome (rest_of now after.world) (λ rest. 0 < length rest)
-  pub text : IfSome (rest_of now after.world) (λ rest. without_return now.held.items ≡ first_text rest)
-  pub behind : option_map (λ l. left ++ l) (after.world.left (unit_of now)) ≡ option_map behind_line (rest_of now after.world)
+  pub some : IfSome (lines_rest now after.world) (λ rest. 0 < length rest)
+  pub text : IfSome (lines_rest now after.world) (λ rest. without_return now.held.items ≡ first_text rest)
+  pub behind : option_map (λ l. left ++ l) (after.world.left (unit_of now)) ≡ option_map behind_line (lines_rest now after.world)
 
 -- what is held is the first line
 pub next_from : (start now new : Lines) (before after : Seen) (ends : Bool) (left : List ℕ) (got : LineAnswer) → left ≡ take (now.end - (now.start + (if ends then 1 else 0))) (drop (now.start + (if ends then 1 else 0)) now.piece)
@@ -122,14 +122,14 @@ next_from start now new before after ends left (answer.Line line) is ready gives
   moves = record { unit = gives.unit ∙ ready.reads.unit; taken = ready.reads.taken; goes = ready.reads.read.goes };
   short = gives.short;
   some = back start now before after ready.reads _ ready.some;
-  is_text = back start now before after ready.reads _ (text_told (rest_of now after.world) (without_return now.held.items) (text_of_line line) gives.text ready.text);
+  is_text = back start now before after ready.reads _ (text_told (lines_rest now after.world) (without_return now.held.items) (text_of_line line) gives.text ready.text);
   rest = ap (λ u. option_map (λ l. bytes_held new ++ l) (after.world.left u)) gives.unit ∙ ap (λ (p : List ℕ). option_map (λ l. p ++ l) (after.world.left (unit_of now))) (gives.left ∙ sym is) ∙ ready.behind ∙ ap (λ (rest : Option (List ℕ)). option_map behind_line rest) (rest_same start now before after ready.reads);
   number = gives.number ∙ ap one_more ready.reads.number;
 }
 next_from start now new before after ends left (answer.Jam number) is ready jams = record {
   stays = subst (λ (lines : Lines). Stays start lines before after) (sym jams.same) (stays_of start now before after ready.reads);
   number_is = jams.number_is ∙ ap one_more ready.reads.number;
-  long = back start now before after ready.reads _ (long_told (rest_of now after.world) (without_return now.held.items) jams.long ready.text);
+  long = back start now before after ready.reads _ (long_told (lines_rest now after.world) (without_return now.held.items) jams.long ready.text);
 }
 next_from start now new before after ends left answer.End is ready never = absurd never
 next_from start now new before after ends left answer.Failed is ready never = absurd never

@@ -4,7 +4,7 @@ use Rattle.std.proofs.lemmas.Bool.Decides.{nat_tests}
 use Rattle.std.proofs.lemmas.Nat.{div-mul-add, mod-mul-add}
 use Rattle.std.specs.Prelude.{if◌then◌else◌, ◌==◌, ◌+◌, ◌*◌, ◌/◌, ◌%◌, unwrap_or}
 use Rattle.digit_core.specs.declared.Digit.{Digit}
-use Rattle.digit_core.specs.Cell.{IsGood, is_value, unflagged_digit, same_digit}
+use Rattle.digit_core.specs.Cell.{IsGood, is_cell_value, unflagged_digit, same_digit}
 use Rattle.digit_core.proofs.Below.{same_below}
 use Rattle.card_code.proofs.PairTables.{inside, outside}
 use Rattle.card_code.specs.Pairs.{Pair, pair_table, alpha_of, punch_alpha, pair_in, pair_char_in}
@@ -16,7 +16,7 @@ digit flag value = record { flag = flag; value = value }
 
 -- what is read where the digit was typed, at the values that a cell can hold
 abbrev read_back : Bool → ℕ → Option Digit
-read_back flag v = if is_value v then object_digit (object_char (digit flag v)) else Some (digit flag v)
+read_back flag v = if is_cell_value v then object_digit (object_char (digit flag v)) else Some (digit flag v)
 
 -- it is the digit
 each : (flag : Bool) (v : ℕ) → v < 16 → read_back flag v ≡ Some (digit flag v)

@@ -8,11 +8,11 @@ use Rattle.outside_io.specs.declared.host.Unit as unit
 use Rattle.outside_io.specs.World.{Seen, Goes, world_after_put}
 use Rattle.outside_io.proofs.Worlds.{adds_on}
 use Rattle.traces.specs.Trace.{Trace}
-use Rattle.card_code.specs.TextOut.{Output, Writes, Warns, with_pair, written_char, panel_after_pair, bytes_of, lamps_of}
+use Rattle.card_code.specs.TextOut.{Output, Writes, Warns, with_pair, written_char, panel_after_pair, bytes_out, lamps_of}
 use Rattle.card_code.specs.Written.{CarriedOut}
 
 -- the bytes of two lists of effects, and their lamps
-pub bytes_of-append : (es fs : List Output) → bytes_of (es ++ fs) ≡ bytes_of es ++ bytes_of fs
+pub bytes_of-append : (es fs : List Output) → bytes_out (es ++ fs) ≡ bytes_out es ++ bytes_out fs
 bytes_of-append [] fs = refl
 bytes_of-append (Writes b ∷ es) fs = ap (λ (x : List ℕ). b ∷ x) (bytes_of-append es fs)
 bytes_of-append (Warns l ∷ es) fs = bytes_of-append es fs
@@ -30,7 +30,7 @@ panel_after-append panel (k ∷ ks) ls = panel_after-append (set k.code k.to pan
 -- effects, and then more of them
 pub put_on : (u : unit.Unit) (es fs : List Output) (panel mid_panel new_panel : Panel) (before mid after : Seen) → CarriedOut u es panel before mid_panel mid → CarriedOut u fs mid_panel mid new_panel after → CarriedOut u (es ++ fs) panel before new_panel after
 put_on u es fs panel mid_panel new_panel before mid after first next = record {
-  goes = subst (λ (bytes : List ℕ). Goes before after (world_after_put u bytes before.world)) (sym (bytes_of-append es fs)) (adds_on before mid after u (bytes_of es) (bytes_of fs) first.goes next.goes);
+  goes = subst (λ (bytes : List ℕ). Goes before after (world_after_put u bytes before.world)) (sym (bytes_of-append es fs)) (adds_on before mid after u (bytes_out es) (bytes_out fs) first.goes next.goes);
   shows = next.shows ∙ ap (λ (p : Panel). panel_after p (lamps_of fs)) first.shows ∙ sym (panel_after-append panel (lamps_of es) (lamps_of fs)) ∙ ap (λ (ls : List Lamp). panel_after panel ls) (sym (lamps_of-append es fs));
 }
 
@@ -40,7 +40,7 @@ module _ {A E : Type 0} (f : ℕ → Trace Output A E) where
   pair_answer (Some c) = refl
   pair_answer None = refl
 
-  pub pair_bytes : (char : Option ℕ) → bytes_of (with_pair char f).effects ≡ bytes_of (f (written_char char)).effects
+  pub pair_bytes : (char : Option ℕ) → bytes_out (with_pair char f).effects ≡ bytes_out (f (written_char char)).effects
   pair_bytes (Some c) = refl
   pair_bytes None = refl
 

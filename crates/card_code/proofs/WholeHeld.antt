@@ -6,7 +6,7 @@ use Rattle.outside_io.specs.Lines.{HasNoEnd}
 use Rattle.outside_io.specs.World.{Readings, no_readings, one_reading, Seen, Goes, Gets, Ends, Fails, world_after_take}
 use Rattle.outside_io.proofs.Worlds.{Read, read_on, read_end, read_stays, taken_from-nil}
 use Rattle.card_code.specs.declared.lines.Lines.{Lines}
-use Rattle.card_code.specs.Reader.{unit_of, bytes_held, has_end, HasWhole, with_last, TakesNeeded, takes_none, takes_some, AsksOnce, asks_one}
+use Rattle.card_code.specs.Reader.{unit_of, bytes_held, has_end, HasWhole, with_last_reading, TakesNeeded, takes_none, takes_some, AsksOnce, asks_one}
 use Rattle.card_code.proofs.Readers.{Reads, all_held}
 
 -- a LF stays where more bytes stand behind it
@@ -47,7 +47,7 @@ still_held start before after (takes_some asks) whole = absurd (asks.lacks (whol
 
 -- The host was asked by a reader that doesn't hold the line, and has found no end so far.
 module _ (start now : Lines) (before after later : Seen) (reads : Reads start now before after) (lacks : HasWhole (bytes_held now) → ⊥) (some : reads.taken.ends ≡ 0) where
-  needs_last : (last : Option (List ℕ)) → Read before later (unit_of start) (with_last reads.taken last) → TakesNeeded start before later
+  needs_last : (last : Option (List ℕ)) → Read before later (unit_of start) (with_last_reading reads.taken last) → TakesNeeded start before later
   needs_last last read = takes_some (record {
     earlier = reads.taken;
     last = last;
@@ -69,7 +69,7 @@ module _ (start now : Lines) (before after later : Seen) (reads : Reads start no
   pub needs_failed : Fails after later → TakesNeeded start before later
   needs_failed fails = needs_last None (read_stays before after later (unit_of start) reads.taken reads.read (record { later = fails.later; world = fails.world }))
 
-one_alone : (piece : List ℕ) → one_reading piece ≡ with_last no_readings (Some piece)
+one_alone : (piece : List ℕ) → one_reading piece ≡ with_last_reading no_readings (Some piece)
 one_alone piece =
     let ends : (one_reading piece).ends ≡ 0 + (one_reading piece).ends = omega arith in
     λ i. record (one_reading piece) { ends = ends i }

@@ -12,10 +12,10 @@ pub record DigitEntry : Type 0 where
   pub digit : Digit
 
 -- characters side by side with the values of their digits, all flagged or none
-abbrev pub row : Bool → List ℕ → List ℕ → List DigitEntry
-row flag (c ∷ cs) (v ∷ vs) = record { char = c; digit = record { flag = flag; value = v } } ∷ row flag cs vs
-row flag (c ∷ cs) [] = []
-row flag [] vs = []
+abbrev pub digit_row : Bool → List ℕ → List ℕ → List DigitEntry
+digit_row flag (c ∷ cs) (v ∷ vs) = record { char = c; digit = record { flag = flag; value = v } } ∷ digit_row flag cs vs
+digit_row flag (c ∷ cs) [] = []
+digit_row flag [] vs = []
 
 -- the digit of a character, by the first entry that has it
 unfoldable pub digit_in : List DigitEntry → ℕ → Option Digit
@@ -34,20 +34,20 @@ values = 0 ∷ 1 ∷ 2 ∷ 3 ∷ 4 ∷ 5 ∷ 6 ∷ 7 ∷ 8 ∷ 9 ∷ RECORD_MARK
 -- the object characters
 abbrev pub object_table : List DigitEntry
 object_table =
-    row false (codes "0123456789|@}") values
-    ++ row true (codes "]JKLMNOPQR!*\"") values
+    digit_row false (codes "0123456789|@}") values
+    ++ digit_row true (codes "]JKLMNOPQR!*\"") values
 
 -- what cards and keys have besides
 abbrev pub numerical_table : List DigitEntry
 numerical_table =
     object_table
-    ++ row false (codes " ABCDEFGHI") (0 ∷ 1 ∷ 2 ∷ 3 ∷ 4 ∷ 5 ∷ 6 ∷ 7 ∷ 8 ∷ 9 ∷ [])
-    ++ row false (codes "+/STUVWXYZ") (0 ∷ 1 ∷ 2 ∷ 3 ∷ 4 ∷ 5 ∷ 6 ∷ 7 ∷ 8 ∷ 9 ∷ [])
-    ++ row true (codes "-") (0 ∷ [])
+    ++ digit_row false (codes " ABCDEFGHI") (0 ∷ 1 ∷ 2 ∷ 3 ∷ 4 ∷ 5 ∷ 6 ∷ 7 ∷ 8 ∷ 9 ∷ [])
+    ++ digit_row false (codes "+/STUVWXYZ") (0 ∷ 1 ∷ 2 ∷ 3 ∷ 4 ∷ 5 ∷ 6 ∷ 7 ∷ 8 ∷ 9 ∷ [])
+    ++ digit_row true (codes "-") (0 ∷ [])
 
 -- what is punched: an unflagged numerical blank is a blank column
 abbrev pub punch_table : List DigitEntry
-punch_table = row false (codes " ") (NUMERICAL_BLANK ∷ []) ++ object_table
+punch_table = digit_row false (codes " ") (NUMERICAL_BLANK ∷ []) ++ object_table
 
 -- the digit of an object character, and of a character of cards and keys
 abbrev pub object_digit : ℕ → Option Digit

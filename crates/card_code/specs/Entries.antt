@@ -39,9 +39,9 @@ abbrev pub text_as_card : List ℕ → List ℕ
 text_as_card text = text ++ replicate (80 - length text) 32
 
 -- nothing is left
-abbrev pub is_empty : List Entry → Bool
-is_empty [] = true
-is_empty (e ∷ es) = false
+abbrev pub has_none_left : List Entry → Bool
+has_none_left [] = true
+has_none_left (e ∷ es) = false
 
 -- what stands behind the front entry
 abbrev pub behind : List Entry → List Entry
@@ -56,7 +56,7 @@ pub record Taken : Type 0 where
 -- the next card of a hopper; a line that is too long is never passed
 abbrev pub next_card : List Entry → Result Taken Break
 next_card [] = Err Empty
-next_card (Text text ∷ es) = Ok (record { text = text_as_card text; last = is_empty es })
+next_card (Text text ∷ es) = Ok (record { text = text_as_card text; last = has_none_left es })
 next_card (Long u n ∷ es) = Err (Jam u n)
 
 -- the next line of the keyboard

@@ -2,7 +2,7 @@
 use Rattle.std.specs.Prelude.{ℕ, ◌≡◌, List, Option, Some, None, option_map, Result, Ok, Err, ⊤}
 use Rattle.indicators.specs.declared.Panel.{Panel}
 use Rattle.outside_io.specs.World.{World, Seen, Rose}
-use Rattle.outside_io.specs.Frame.{Tells, Given}
+use Rattle.outside_io.specs.Frame.{Tells, ToldValue}
 use Rattle.addr_indirect.specs.declared.Stop.{Stop}
 use Rattle.traces.specs.Trace.{Trace, does, ◌>>=◌, lift}
 use Rattle.traces.specs.Change.{Change}
@@ -22,26 +22,26 @@ pub record Stays {S A : Type 0} (feed : Feed S A) (old new : S) (before after : 
   pub left : feed.left new after.world ≡ feed.left old before.world
 
 -- the front entry is taken, and this is given for it
-pub record Gives {S A : Type 0} (feed : Feed S A) (old new : S) (before after : Seen) (what : A) : Type 0 where
+pub record GivesEntry {S A : Type 0} (feed : Feed S A) (old new : S) (before after : Seen) (what : A) : Type 0 where
   pub looks : feed.Looks before after
   pub left : feed.left new after.world ≡ option_map behind (feed.left old before.world)
-  pub given : Given (feed.left old before.world) (λ es. feed.next es ≡ Ok what)
+  pub given : ToldValue (feed.left old before.world) (λ es. feed.next es ≡ Ok what)
 
 -- nothing is taken, for this reason: no entry is left, or the line is too long
 pub record Lacks {S A : Type 0} (feed : Feed S A) (old new : S) (before after : Seen) (why : Break) : Type 0 where
   pub stays : Stays feed old new before after
-  pub given : Given (feed.left old before.world) (λ es. feed.next es ≡ Err why)
+  pub given : ToldValue (feed.left old before.world) (λ es. feed.next es ≡ Err why)
 
 -- the host failed
-pub record Fails {S A : Type 0} (feed : Feed S A) (old new : S) (before after : Seen) : Type 0 where
+pub record FailsToTake {S A : Type 0} (feed : Feed S A) (old new : S) (before after : Seen) : Type 0 where
   pub stays : Stays feed old new before after
   pub rose : Rose before.faults after.faults
 
 -- what the taking of an entry does, by how it ends: None where the host failed
 abbrev pub TakesNext : {S A : Type 0} → Feed S A → S → S → Seen → Seen → Option (Result A Break) → Type 0
-TakesNext feed old new before after (Some (Ok what)) = Gives feed old new before after what
+TakesNext feed old new before after (Some (Ok what)) = GivesEntry feed old new before after what
 TakesNext feed old new before after (Some (Err why)) = Lacks feed old new before after why
-TakesNext feed old new before after None = Fails feed old new before after
+TakesNext feed old new before after None = FailsToTake feed old new before after
 
 -- an entry is taken, and then what is given for it is stored
 abbrev pub take_next : {A : Type 0} → (List Entry → Result A Break) → List Entry → (A → Trace Change ⊤ Stop)
@@ -83,7 +83,7 @@ pub record ReadsAll {S A : Type 0} (feed : Feed S A) (t : List Entry → Trace I
 pub record ReadsNone {S A : Type 0} (feed : Feed S A) (old new : Station S) : Type 0 where
   pub core_same : new.core ≡ old.core
   pub panel_same : new.panel ≡ old.panel
-  pub fails : Fails feed old.from new.from old.seen new.seen
+  pub fails : FailsToTake feed old.from new.from old.seen new.seen
 
 -- what a reading with the trace t does, by how it ends: None where the host failed
 abbrev pub ReadsIn : {S A : Type 0} → Feed S A → (List Entry → Trace Intake ⊤ Break) → Station S → Station S

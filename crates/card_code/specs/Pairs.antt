@@ -2,7 +2,7 @@
 -- Source: 1622 manual, card codes; the characters of `]`, `|` and `}`, and which bytes and pairs have none, are this
 -- project's own.
 use Rattle.std.specs.Prelude.{ℕ, IsTrue, ◌==◌, ◌&&◌, List, [], ◌∷◌, ◌++◌, codes, if◌then◌else◌, Option, Some, None}
-use Rattle.digit_core.specs.Cell.{is_value}
+use Rattle.digit_core.specs.Cell.{is_cell_value}
 use Rattle.digit_core.specs.declared.TheConstants.{RECORD_MARK, GROUP_MARK}
 
 -- a zone digit and a numeric digit
@@ -60,4 +60,4 @@ digits p = (p.zone, p.number)
 
 -- digits that cells can hold
 abbrev pub IsGoodPair : ℕ × ℕ → Type 0
-IsGoodPair pair = IsTrue (is_value pair.0) × IsTrue (is_value pair.1)
+IsGoodPair pair = IsTrue (is_cell_value pair.0) × IsTrue (is_cell_value pair.1)

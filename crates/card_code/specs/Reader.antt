@@ -9,7 +9,7 @@ use Rattle.card_code.specs.declared.lines.More.{More}
 use Rattle.card_code.specs.declared.lines.More.TheVariants as more
 use Rattle.card_code.specs.LineText.{text_of_line}
 use Rattle.outside_io.specs.Lines.{behind_line, first_text}
-use Rattle.card_code.specs.Entries.{Entry, Text, Long, entries_of_unit, behind, is_empty}
+use Rattle.card_code.specs.Entries.{Entry, Text, Long, entries_of_unit, behind, has_none_left}
 
 -- the unit whose lines are read
 abbrev pub unit_of : Lines → unit.Unit
@@ -24,12 +24,12 @@ abbrev pub bytes_held : Lines → List ℕ
 bytes_held lines = lines.held.items ++ take (lines.end - lines.start) (drop lines.start lines.piece)
 
 -- the bytes that are left, where they're told
-abbrev pub rest_of : Lines → World → Option (List ℕ)
-rest_of lines w = option_map (λ left. bytes_held lines ++ left) (w.left (unit_of lines))
+abbrev pub lines_rest : Lines → World → Option (List ℕ)
+lines_rest lines w = option_map (λ left. bytes_held lines ++ left) (w.left (unit_of lines))
 
 -- the lines that are left, where they're told
 abbrev pub entries_left : Lines → World → Option (List Entry)
-entries_left lines w = option_map (entries_of_unit (unit_of lines) (lines_handed_out lines)) (rest_of lines w)
+entries_left lines w = option_map (entries_of_unit (unit_of lines) (lines_handed_out lines)) (lines_rest lines w)
 
 -- a LF stands in the bytes
 abbrev pub has_end : List ℕ → Bool
@@ -41,9 +41,9 @@ abbrev pub HasWhole : List ℕ → Type 0
 HasWhole held = (has_end held ≡ true) ⊎ (82 ≤ length held)
 
 -- some readings, and then a last one, which gave these bytes or found no more; None where the host failed in it
-abbrev pub with_last : Readings → Option (List ℕ) → Readings
-with_last earlier None = earlier
-with_last earlier (Some piece) = both_readings earlier (one_reading piece)
+abbrev pub with_last_reading : Readings → Option (List ℕ) → Readings
+with_last_reading earlier None = earlier
+with_last_reading earlier (Some piece) = both_readings earlier (one_reading piece)
 
 -- the host was asked, and each time that was needed: every reading before the last gave some bytes, and what was held with these didn't show
 -- the next line
@@ -52,8 +52,8 @@ pub record AsksAsNeeded (old : Lines) (before after : Seen) : Type 0 where
   pub last : Option (List ℕ)
   pub some : earlier.ends ≡ 0
   pub lacks : HasWhole (bytes_held old ++ earlier.bytes) → ⊥
-  pub begins : BeginsWith (with_last earlier last).bytes (before.world.left (unit_of old))
-  pub goes : Goes before after (world_after_take (unit_of old) (with_last earlier last) before.world)
+  pub begins : BeginsWith (with_last_reading earlier last).bytes (before.world.left (unit_of old))
+  pub goes : Goes before after (world_after_take (unit_of old) (with_last_reading earlier last) before.world)
 
 -- the host was asked only while what was held didn't show the next line
 pub data TakesNeeded (old : Lines) (before after : Seen) : Type 0 where
@@ -84,7 +84,7 @@ IsOneAhead lines w = IfSome (w.asked (unit_of lines)) (AsksOneAhead (bytes_held 
 -- the host was asked
 pub record AsksOne (old : Lines) (before after : Seen) : Type 0 where
   pub last : Option (List ℕ)
-  pub goes : Goes before after (world_after_take (unit_of old) (with_last no_readings last) before.world)
+  pub goes : Goes before after (world_after_take (unit_of old) (with_last_reading no_readings last) before.world)
 
 -- once at most
 pub data AsksOnce (old : Lines) (before after : Seen) : Type 0 where
@@ -92,36 +92,36 @@ pub data AsksOnce (old : Lines) (before after : Seen) : Type 0 where
   asks_one : AsksOne old before after → AsksOnce old before after
 
 -- the unit was asked some times, and nothing else outside changed
-pub record Moves (old new : Lines) (before after : Seen) : Type 0 where
+pub record AsksUnit (old new : Lines) (before after : Seen) : Type 0 where
   pub unit : unit_of new ≡ unit_of old
   pub taken : Readings
   pub goes : Goes before after (world_after_take (unit_of old) taken before.world)
 
 -- nothing of the meaning changed
 pub record Stays (old new : Lines) (before after : Seen) : Type 0 where
-  pub moves : Moves old new before after
-  pub rest : rest_of new after.world ≡ rest_of old before.world
+  pub moves : AsksUnit old new before after
+  pub rest : lines_rest new after.world ≡ lines_rest old before.world
   pub number : lines_handed_out new ≡ lines_handed_out old
 
 -- the first line is handed out
-pub record Gives (old new : Lines) (before after : Seen) (text : List ℕ) : Type 0 where
-  pub moves : Moves old new before after
+pub record GivesEntry (old new : Lines) (before after : Seen) (text : List ℕ) : Type 0 where
+  pub moves : AsksUnit old new before after
   pub short : length text ≤ 80
-  pub some : IfSome (rest_of old before.world) (λ rest. 0 < length rest)
-  pub is_text : IfSome (rest_of old before.world) (λ rest. text ≡ first_text rest)
-  pub rest : rest_of new after.world ≡ option_map behind_line (rest_of old before.world)
+  pub some : IfSome (lines_rest old before.world) (λ rest. 0 < length rest)
+  pub is_text : IfSome (lines_rest old before.world) (λ rest. text ≡ first_text rest)
+  pub rest : lines_rest new after.world ≡ option_map behind_line (lines_rest old before.world)
   pub number : lines_handed_out new ≡ one_more (lines_handed_out old)
 
 -- no byte is left
 pub record HasEnded (old new : Lines) (before after : Seen) : Type 0 where
   pub stays : Stays old new before after
-  pub none : IfSome (rest_of old before.world) (λ rest. rest ≡ [])
+  pub none : IfSome (lines_rest old before.world) (λ rest. rest ≡ [])
 
 -- the first line is over 80 bytes, and stays
 pub record Jams (old new : Lines) (before after : Seen) (number : ℕ) : Type 0 where
   pub stays : Stays old new before after
   pub number_is : number ≡ one_more (lines_handed_out old)
-  pub long : IfSome (rest_of old before.world) (λ rest. 80 < length (first_text rest))
+  pub long : IfSome (lines_rest old before.world) (λ rest. 80 < length (first_text rest))
 
 -- the host failed
 pub record HostFails (old new : Lines) (before after : Seen) : Type 0 where
@@ -130,7 +130,7 @@ pub record HostFails (old new : Lines) (before after : Seen) : Type 0 where
 
 -- what the reading of a line does, in bytes
 abbrev pub NextLine : Lines → Lines → Seen → Seen → LineAnswer → Type 0
-NextLine old new before after (answer.Line line) = Gives old new before after (text_of_line line)
+NextLine old new before after (answer.Line line) = GivesEntry old new before after (text_of_line line)
 NextLine old new before after answer.End = HasEnded old new before after
 NextLine old new before after (answer.Jam number) = Jams old new before after number
 NextLine old new before after answer.Failed = HostFails old new before after
@@ -138,7 +138,7 @@ NextLine old new before after answer.Failed = HostFails old new before after
 -- some byte is left
 pub record IsLeft (old new : Lines) (before after : Seen) : Type 0 where
   pub stays : Stays old new before after
-  pub some : IfSome (rest_of old before.world) (λ rest. 0 < length rest)
+  pub some : IfSome (lines_rest old before.world) (λ rest. 0 < length rest)
 
 -- what the look ahead does, in bytes
 abbrev pub HasMore : Lines → Lines → Seen → Seen → More → Type 0
@@ -156,7 +156,7 @@ HasNone left = IfSome left (λ es. es ≡ [])
 
 -- some entry is left, where they're told
 abbrev pub HasSome : Option (List Entry) → Type 0
-HasSome left = IfSome left (λ es. is_empty es ≡ false)
+HasSome left = IfSome left (λ es. has_none_left es ≡ false)
 
 -- what the reading of a line does to the entries of a unit that are left
 abbrev pub NextEntry : unit.Unit → Option (List Entry) → Option (List Entry) → Seen → Seen → LineAnswer → Type 0

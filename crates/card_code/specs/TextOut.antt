@@ -33,10 +33,10 @@ panel_after_pair (Some c) panel = panel
 panel_after_pair None panel = set WRITE_CHECK true panel
 
 -- the bytes that go out, and the changes of indicators
-abbrev pub bytes_of : List Output → List ℕ
-bytes_of [] = []
-bytes_of (Writes b ∷ es) = b ∷ bytes_of es
-bytes_of (Warns l ∷ es) = bytes_of es
+abbrev pub bytes_out : List Output → List ℕ
+bytes_out [] = []
+bytes_out (Writes b ∷ es) = b ∷ bytes_out es
+bytes_out (Warns l ∷ es) = bytes_out es
 
 abbrev pub lamps_of : List Output → List Lamp
 lamps_of [] = []

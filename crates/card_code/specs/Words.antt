@@ -3,7 +3,7 @@ use Rattle.std.specs.Prelude.{ℕ, ◌+◌, ◌*◌, ◌≡◌, ◌<◌, ◌≤�
 use Rattle.digit_core.specs.declared.Digit.{Digit}
 use Rattle.digit_core.specs.{cell, unflagged_digit, read_cell, six, AreGoodUpTo}
 use Rattle.digit_core.specs.Cell.{digit_of_cell, low_bits}
-use Rattle.digit_core.specs.Search.{is_bad}
+use Rattle.digit_core.specs.Search.{is_bad_cell}
 use Rattle.digit_core.specs.Within.{HasBad}
 use Rattle.traces.specs.Trace.{map_answer}
 use Rattle.card_code.specs.Pairs.{Pair, alpha_of}
@@ -58,7 +58,7 @@ pub record AreEntries (table text : List ℕ) (w : ℕ) : Type 0 where
 pub record HasNoEntry (table text : List ℕ) : Type 0 where
   pub at : ℕ
   pub within : at < length text
-  pub none : is_bad (slice_index table (slice_index text at)) ≡ true
+  pub none : is_bad_cell (slice_index table (slice_index text at)) ≡ true
 
 -- each of the word's ten cells is good, and its digit has this character
 pub record AreChars (char_of : Digit → ℕ) (w : ℕ) (chars : List ℕ) : Type 0 where

@@ -6,7 +6,7 @@ use Rattle.outside_io.specs.declared.host.Unit as unit
 use Rattle.outside_io.specs.World.{Seen, Rose, Goes, world_after_put}
 use Rattle.addr_indirect.specs.declared.Stop.{Stop}
 use Rattle.traces.specs.Trace.{Trace}
-use Rattle.card_code.specs.TextOut.{Output, bytes_of, lamps_of}
+use Rattle.card_code.specs.TextOut.{Output, bytes_out, lamps_of}
 
 -- all bytes were written, with this answer
 pub record Wrote (u : unit.Unit) (t : Trace ℕ ⊤ Stop) (before after : Seen) (answer : Result ⊤ Stop) : Type 0 where
@@ -22,7 +22,7 @@ pub record WroteFirst (u : unit.Unit) (t : Trace ℕ ⊤ Stop) (before after : S
 -- these effects were carried out on the unit and on the panel
 pub record CarriedOut (u : unit.Unit) (es : List Output) (panel : Panel) (before : Seen) (new_panel : Panel)
     (after : Seen) : Type 0 where
-  pub goes : Goes before after (world_after_put u (bytes_of es) before.world)
+  pub goes : Goes before after (world_after_put u (bytes_out es) before.world)
   pub shows : new_panel ≡ panel_after panel (lamps_of es)
 
 -- all pairs were written, with this answer

@@ -17,7 +17,7 @@ pub fn num_of(c: u8) -> Option<Digit>
     ensures is { result ≡ num_of c }
     ensures good { IfSome result IsGood }
 {
-    digit_by(&NUM_CELLS, c)
+    digit_entry(&NUM_CELLS, c)
 }
 
 /// The digit of an object character: a character that a digit is typed, punched or printed as.
@@ -29,7 +29,7 @@ pub fn object_digit(c: u8) -> Option<Digit>
     ensures is { result ≡ object_digit c }
     ensures good { IfSome result IsGood }
 {
-    digit_by(&OBJECT_CELLS, c)
+    digit_entry(&OBJECT_CELLS, c)
 }
 
 /// The object character of a digit that a cell can hold.
@@ -40,7 +40,7 @@ pub fn object_char(d: Digit) -> u8
     requires { IsGood d }
     ensures { result ≡ object_char d }
 {
-    char_by(&OBJECT_CHARS, d)
+    char_entry(&OBJECT_CHARS, d)
 }
 
 /// The character that a digit that a cell can hold is punched as.
@@ -52,12 +52,12 @@ pub fn punch_num(d: Digit) -> u8
     requires { IsGood d }
     ensures { result ≡ punch_num d }
 {
-    char_by(&PUNCH_CHARS, d)
+    char_entry(&PUNCH_CHARS, d)
 }
 
 // The digit of a character by a table of cells, where it has one.
 #[inline(always)]
-fn digit_by(table: &[u8; 256], c: u8) -> Option<Digit>
+fn digit_entry(table: &[u8; 256], c: u8) -> Option<Digit>
     ensures { result ≡ digit_entry table.now c }
 {
     let cell = table[c as usize];
@@ -72,7 +72,7 @@ fn digit_by(table: &[u8; 256], c: u8) -> Option<Digit>
 
 // The character of a digit by a table. Of the two cells with the digit's flag and value one is good; the other has no character.
 #[inline(always)]
-fn char_by(table: &[u8; 64], d: Digit) -> u8
+fn char_entry(table: &[u8; 64], d: Digit) -> u8
     requires { d.value < 16 }
     ensures { result ≡ char_entry table.now d }
 {

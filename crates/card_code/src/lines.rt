@@ -60,7 +60,7 @@ pub struct Lines {
 }
 
 impl Lines {
-    ghost use Rattle.card_code.specs.Reader.{bytes_held, unit_of, lines_handed_out, rest_of, entries_left, NextLine, NextOf, HasMore, MoreOf, HasWhole, TakesNeeded, AsksOnce, IsInTurn, IsOneAhead};
+    ghost use Rattle.card_code.specs.Reader.{bytes_held, unit_of, lines_handed_out, lines_rest, entries_left, NextLine, NextOf, HasMore, MoreOf, HasWhole, TakesNeeded, AsksOnce, IsInTurn, IsOneAhead};
     ghost use Rattle.card_code.specs.declared.lines.More.TheVariants as more;
     ghost use Rattle.card_code.specs.Entries.{unit_entries};
     ghost use Rattle.card_code.specs.Holding.{HoldsMore, HandsOut, EndsNext};
@@ -72,7 +72,7 @@ impl Lines {
         requires { is_input unit ≡ true }
         ensures unit { unit_of result ≡ unit }
         ensures number { lines_handed_out result ≡ 0 }
-        ensures left { (w : World) → rest_of result w ≡ w.left unit }
+        ensures left { (w : World) → lines_rest result w ≡ w.left unit }
         ensures entries { (w : World) → entries_left result w ≡ unit_entries unit w }
         ensures held { bytes_held result ≡ [] }
         ensures turn { (w : World) → IsInTurn result w }

@@ -16,7 +16,7 @@ pub fn alpha_of(c: u8) -> Option<(u8, u8)>
     ensures is { result ≡ option_map digits (alpha_of c) }
     ensures good { IfSome result IsGoodPair }
 {
-    pair_by(&PAIR_CELLS, c)
+    pair_entry(&PAIR_CELLS, c)
 }
 
 /// The character of a pair of digits, the zone `z` and the number `n`.
@@ -26,7 +26,7 @@ pub fn alpha_of(c: u8) -> Option<(u8, u8)>
 pub fn punch_alpha(z: u8, n: u8) -> Option<u8>
     ensures { result ≡ punch_alpha z n }
 {
-    char_by(&PAIR_CHARS, z, n)
+    pair_char_entry(&PAIR_CHARS, z, n)
 }
 
 /// The character that two digits are written as, once both were read. Their flags are ignored.
@@ -48,7 +48,7 @@ pub fn char_of_pair(zone: Digit, number: Digit, panel: &mut Panel) -> u8
 
 // The two digits of a character by a table of the cells of pairs, where it has a pair.
 #[inline(always)]
-fn pair_by(table: &[u16; 256], c: u8) -> Option<(u8, u8)>
+fn pair_entry(table: &[u16; 256], c: u8) -> Option<(u8, u8)>
     ensures { result ≡ pair_entry table.now c }
 {
     let pair = table[c as usize];
@@ -60,7 +60,7 @@ fn pair_by(table: &[u16; 256], c: u8) -> Option<(u8, u8)>
 
 // The character of a zone and a number by a table, where there is one.
 #[inline(always)]
-fn char_by(table: &[u8; 128], z: u8, n: u8) -> Option<u8>
+fn pair_char_entry(table: &[u8; 128], z: u8, n: u8) -> Option<u8>
     ensures { result ≡ pair_char_entry table.now z n }
 {
     if z >= 8 || n >= 16 {

@@ -1,6 +1,6 @@
 // Texts that are stored in core.
 ghost use Rattle.std.specs.Prelude.{◌≡◌, ◌≤◌, ◌<◌, ◌+◌, ◌*◌, ℕ, take, drop, length, IfSome, OnErr, IsTrue, Ok};
-ghost use Rattle.digit_core.specs.{size, is_value, unflagged_digit, IsGood};
+ghost use Rattle.digit_core.specs.{size, is_cell_value, unflagged_digit, IsGood};
 ghost use Rattle.traces.specs.Change.{Changed};
 ghost use Rattle.card_code.specs.Characters.{num_of};
 ghost use Rattle.card_code.specs.Words.{AreCells, ArePairCells};
@@ -168,8 +168,8 @@ fn store_pair<const M: u32>(
     }
     let number = match alpha_of(c) {
         Some((zone, number)) => {
-            core.put(at, plain(zone));
-            plain(number)
+            core.put(at, unflagged_digit(zone));
+            unflagged_digit(number)
         }
         None => {
             core.put(at, ZERO);
@@ -185,8 +185,8 @@ fn store_pair<const M: u32>(
 }
 
 // An unflagged digit.
-fn plain(value: u8) -> Digit
-    requires { IsTrue (is_value value) }
+fn unflagged_digit(value: u8) -> Digit
+    requires { IsTrue (is_cell_value value) }
     ensures is { result ≡ unflagged_digit value }
     ensures good { IsGood result }
 {

@@ -8,8 +8,8 @@ abbrev pub nth : List Digit → ℕ → Digit
 nth ds i = slice_index_or ds i (unflagged_digit 0)
 
 -- how many addresses five digits have
-abbrev pub addresses : ℕ
-addresses = 100000
+abbrev pub address_count : ℕ
+address_count = 100000
 
 -- the digit of a number at a place, which is worth so much
 abbrev pub at_place : ℕ → ℕ → Digit
@@ -24,5 +24,5 @@ abbrev pub order : ℕ → ℕ → ℕ → ℕ → List Digit → List Digit
 order o0 o1 p q ds = unflagged_digit o0 ∷ unflagged_digit o1 ∷ address p (address q ds)
 
 -- an instruction by its opcode and two addresses, and what follows
-abbrev pub instruction : ℕ → ℕ → ℕ → List Digit → List Digit
-instruction opcode p q ds = order (opcode / 10) (opcode % 10) p q ds
+abbrev pub instruction_columns : ℕ → ℕ → ℕ → List Digit → List Digit
+instruction_columns opcode p q ds = order (opcode / 10) (opcode % 10) p q ds

@@ -2,7 +2,7 @@
 ghost use Rattle.std.specs.Prelude.{◌≡◌, ◌+◌, ◌<◌, ◌≤◌, ◌/◌, ◌%◌, [], ◌∷◌, ◌++◌, length, map, replicate, All};
 ghost use Rattle.digit_core.specs.Cell.{IsGood, unflagged_digit};
 ghost use Rattle.card_code.specs.Characters.{object_char};
-ghost use Rattle.card_columns.specs.Orders.{address, addresses, instruction};
+ghost use Rattle.card_columns.specs.Orders.{address, address_count, instruction_columns};
 
 use card_code::{Card, object_char};
 use digit_core::Digit;
@@ -97,7 +97,7 @@ impl Columns {
     /// Source: this project's own.
     pub fn address(&mut self, at: u32)
         requires room { length self.old + 5 ≤ CARD_COLUMNS }
-        requires below { at < addresses }
+        requires below { at < address_count }
         ensures { self.new ≡ self.old ++ map object_char (address at []) }
     {
         self.plain((at / 10_000 % 10) as u8);
@@ -113,9 +113,9 @@ impl Columns {
     pub fn order(&mut self, opcode: u8, p: u32, q: u32)
         requires room { length self.old + 12 ≤ CARD_COLUMNS }
         requires opcode { opcode < 100 }
-        requires p { p < addresses }
-        requires q { q < addresses }
-        ensures { self.new ≡ self.old ++ map object_char (instruction opcode p q []) }
+        requires p { p < address_count }
+        requires q { q < address_count }
+        ensures { self.new ≡ self.old ++ map object_char (instruction_columns opcode p q []) }
     {
         self.plain(opcode / 10);
         self.plain(opcode % 10);

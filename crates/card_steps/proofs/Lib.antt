@@ -1,7 +1,7 @@
-pub mod Held
+pub mod HeldDigits
 pub mod CardsTaken
 pub mod Leading
-pub mod Laid
+pub mod CardDigits
 pub mod Rows
 pub mod Lamps
 pub mod NextCard

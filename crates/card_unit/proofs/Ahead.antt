@@ -17,7 +17,7 @@ use Rattle.card_unit.specs.declared.pile.Pile.{Pile}
 use Rattle.card_unit.specs.declared.pile.Pile.TheVariants as pile
 use Rattle.card_unit.specs.declared.hopper.Hopper.{Hopper}
 use Rattle.card_unit.specs.Pile.{pile_left, pile_unit, IsPileAhead, IsPileInTurn, LooksAt}
-use Rattle.card_unit.specs.Hopper.{IsPileReady, IsDataLater, IsOneAhead, KeepsAhead, IsAheadBehind}
+use Rattle.card_unit.specs.Hopper.{IsPileReady, IsDataLater, IsHopperAhead, KeepsAhead, IsAheadBehind}
 use Rattle.card_unit.proofs.Hoppers.{pile_same, pile_apart}
 
 -- A unit is asked as it was.
@@ -51,7 +51,7 @@ module _ (u : unit.Unit) (v w : World) (asked : w.asked u ≡ v.asked u) where
   data_later front reader left is (inr none) = inr none
 
 -- a hopper stays one ahead where its units are asked as they were
-pub ahead_same : (h : Hopper) (v w : World) → w.left units.Deck ≡ v.left units.Deck → w.asked units.Deck ≡ v.asked units.Deck → w.asked units.Data ≡ v.asked units.Data → IsOneAhead h v → IsOneAhead h w
+pub ahead_same : (h : Hopper) (v w : World) → w.left units.Deck ≡ v.left units.Deck → w.asked units.Deck ≡ v.asked units.Deck → w.asked units.Data ≡ v.asked units.Data → IsHopperAhead h v → IsHopperAhead h w
 ahead_same h v w left deck later ahead = record {
   pile = pile_ready units.Deck v w deck h.front h.pile h.pile_is ahead.pile;
   reader = reader_ahead units.Data v w later h.data h.data_is ahead.reader;
@@ -61,7 +61,7 @@ ahead_same h v w left deck later ahead = record {
 
 -- so it does over a call that leaves it as it was
 pub ahead_kept : (old new : Hopper) (before after : Seen) → new ≡ old → after.world.left units.Deck ≡ before.world.left units.Deck → after.world.asked units.Deck ≡ before.world.asked units.Deck → after.world.asked units.Data ≡ before.world.asked units.Data → KeepsAhead old new before after
-ahead_kept old new before after same left deck later ahead = subst (λ (h : Hopper). IsOneAhead h after.world) (sym same) (ahead_same old before.world after.world left deck later ahead)
+ahead_kept old new before after same left deck later ahead = subst (λ (h : Hopper). IsHopperAhead h after.world) (sym same) (ahead_same old before.world after.world left deck later ahead)
 
 -- a pile in turn is so whatever stands at the front
 any_ready : (front : Option Front) (p : Pile) (w : World) → IsPileInTurn p w → IsPileReady front p w
@@ -75,7 +75,7 @@ always None P holds = tt
 always (Some es) P holds = holds es
 
 -- a hopper is one ahead where its pile and its data are in turn
-pub turn_ahead : (h : Hopper) (w : World) → IsPileInTurn h.pile w → lines.IsInTurn h.data w → IsOneAhead h w
+pub turn_ahead : (h : Hopper) (w : World) → IsPileInTurn h.pile w → lines.IsInTurn h.data w → IsHopperAhead h w
 turn_ahead h w pile turn = record {
   pile = any_ready h.front h.pile w pile;
   reader = is_ahead h.data w turn;
@@ -103,7 +103,7 @@ none_later None reader w none = tt
 none_later (Some es) reader w none = inr (none, refl)
 
 -- The pile was looked at behind a card at the front.
-module _ (old new : Hopper) (before after : Seen) (front : Front) (some : old.front ≡ Some front) (looks : LooksAt (same_unit units.Deck) before after) (ahead : IsOneAhead old before.world) where
+module _ (old new : Hopper) (before after : Seen) (front : Front) (some : old.front ≡ Some front) (looks : LooksAt (same_unit units.Deck) before after) (ahead : IsHopperAhead old before.world) where
   pile_front : IsPileInTurn old.pile before.world
   pile_front = subst (λ (front : Option Front). IsPileReady front old.pile before.world) some ahead.pile
 
@@ -117,7 +117,7 @@ module _ (old new : Hopper) (before after : Seen) (front : Front) (some : old.fr
       IfSome_then (pile_left old.pile before.world) later (λ es. reader_turn units.Data before.world after.world (looks.keeps.asked units.Data refl) old.data old.data_is)
 
   -- it stays as it was but for its readings
-  looked_ahead : new.data ≡ old.data → pile_left new.pile after.world ≡ pile_left old.pile before.world → IsPileReady new.front new.pile after.world → IsOneAhead new after.world
+  looked_ahead : new.data ≡ old.data → pile_left new.pile after.world ≡ pile_left old.pile before.world → IsPileReady new.front new.pile after.world → IsHopperAhead new after.world
   looked_ahead rest left ready = record {
     pile = ready;
     reader = subst (λ (reader : Lines). lines.IsOneAhead reader after.world) (sym rest) reader_front;
@@ -126,15 +126,15 @@ module _ (old new : Hopper) (before after : Seen) (front : Front) (some : old.fr
   }
 
   -- an entry is left in it, and the card at the front is taken
-  pub some_ahead : new.front ≡ None → new.data ≡ old.data → pile_left new.pile after.world ≡ pile_left old.pile before.world → (IsPileAhead old.pile before.world → IsPileAhead new.pile after.world) → IsOneAhead new after.world
+  pub some_ahead : new.front ≡ None → new.data ≡ old.data → pile_left new.pile after.world ≡ pile_left old.pile before.world → (IsPileAhead old.pile before.world → IsPileAhead new.pile after.world) → IsHopperAhead new after.world
   some_ahead gone rest left stays = looked_ahead rest left (subst (λ (front : Option Front). IsPileReady front new.pile after.world) (sym gone) (stays (any_ready None old.pile before.world pile_front)))
 
   -- the host failed
-  pub failed_ahead : new.data ≡ old.data → pile_left new.pile after.world ≡ pile_left old.pile before.world → (IsPileInTurn old.pile before.world → IsPileInTurn new.pile after.world) → IsOneAhead new after.world
+  pub failed_ahead : new.data ≡ old.data → pile_left new.pile after.world ≡ pile_left old.pile before.world → (IsPileInTurn old.pile before.world → IsPileInTurn new.pile after.world) → IsHopperAhead new after.world
   failed_ahead rest left turn = looked_ahead rest left (any_ready new.front new.pile after.world (turn pile_front))
 
 -- None is left in it, and the data were looked at too.
-module _ (old new : Hopper) (mid : Pile) (before between after : Seen) (front : Front) (some : old.front ≡ Some front) (looks : LooksAt (same_unit units.Deck) before between) (ahead : IsOneAhead old before.world)
+module _ (old new : Hopper) (mid : Pile) (before between after : Seen) (front : Front) (some : old.front ≡ Some front) (looks : LooksAt (same_unit units.Deck) before between) (ahead : IsHopperAhead old before.world)
     (same : new.pile ≡ mid) (left : pile_left mid between.world ≡ pile_left old.pile before.world) (turn : IsPileInTurn old.pile before.world → IsPileInTurn mid between.world)
     (looks_rest : LooksAt (same_unit units.Data) between after) (stays : lines.IsOneAhead old.data between.world → lines.IsOneAhead new.data after.world) where
   pile_over : IsPileInTurn new.pile after.world

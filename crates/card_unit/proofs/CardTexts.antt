@@ -9,7 +9,7 @@ use Rattle.addr_indirect.specs.Reading.{read_at, read_up}
 use Rattle.traces.specs.Trace.{Trace, ends, ◌>>=◌, map_answer, with_answer}
 use Rattle.card_code.specs.Characters.{punch_num}
 use Rattle.card_code.specs.Entries.{text_as_card}
-use Rattle.card_code.specs.TextOut.{Output, with_pair, pair_char, bytes_of}
+use Rattle.card_code.specs.TextOut.{Output, with_pair, pair_char, bytes_out}
 use Rattle.card_code.proofs.TextsOut.{pair_bytes}
 use Rattle.card_unit.specs.Punch.{punch_card, punch_numeric, pair_text, dump_card_cells}
 use Rattle.card_unit.proofs.CardsPunched.{in_front, each_up}
@@ -59,12 +59,12 @@ pub numeric_card : (core : List ℕ) (p : ℕ) (text : List ℕ) → Ok text ≡
 numeric_card core p text is = numeric_of (read_up core p 80) text (read_up_length 80 core p) is
 
 -- reading pairs writes nothing
-silent_pair : (zone number : Result Digit Stop) (t : Trace Output (List ℕ) Stop) → bytes_of t.effects ≡ [] → bytes_of (zone >>= (λ z. number >>= (λ n. with_pair (pair_char z n) (λ c. with_answer (λ cs. c ∷ cs) t)))).effects ≡ []
+silent_pair : (zone number : Result Digit Stop) (t : Trace Output (List ℕ) Stop) → bytes_out t.effects ≡ [] → bytes_out (zone >>= (λ z. number >>= (λ n. with_pair (pair_char z n) (λ c. with_answer (λ cs. c ∷ cs) t)))).effects ≡ []
 silent_pair (Ok z) (Ok n) t silent = pair_bytes (λ c. with_answer (λ cs. c ∷ cs) t) (pair_char z n) ∙ silent
 silent_pair (Ok z) (Err s) t silent = refl
 silent_pair (Err s) number t silent = refl
 
-pub pair_text_silent : (n : ℕ) (core : List ℕ) (a : ℕ) → bytes_of (pair_text core a n).effects ≡ []
+pub pair_text_silent : (n : ℕ) (core : List ℕ) (a : ℕ) → bytes_out (pair_text core a n).effects ≡ []
 unfolding pair_text
 pair_text_silent zero core a = refl
 pair_text_silent (suc n) core a = silent_pair (read_at core a) (read_at core (a + 1)) (pair_text core (a + 2) n) (pair_text_silent n core (a + 2))

@@ -9,7 +9,7 @@ use Rattle.std.specs.Prelude.{Option, Some, None}
 use Rattle.digit_core.specs.declared.Digit.{Digit}
 use Rattle.digit_core.specs.Cell.{read_cell}
 use Rattle.digit_core.specs.Packed.{six}
-use Rattle.digit_core.specs.Search.{is_bad}
+use Rattle.digit_core.specs.Search.{is_bad_cell}
 use Rattle.indicators.specs.declared.Panel.{Panel}
 use Rattle.indicators.specs.Lamps.{panel_after}
 use Rattle.addr_indirect.specs.declared.Stop.{Stop}
@@ -106,7 +106,7 @@ module _ (core : List ℕ) (a count k : ℕ) (columns : List ℕ) where
       rw none_left (ap Ok (append-nil (take k columns)))
 
 -- the characters of a word's good cells were put
-pub good_put : (w : ℕ) (chars : List ℕ) (all : Bool) → ((j : ℕ) → j < 10 → is_bad (six w j) ≡ false) → PutsChars punch_num w chars all → AreChars punch_num w chars
+pub good_put : (w : ℕ) (chars : List ℕ) (all : Bool) → ((j : ℕ) → j < 10 → is_bad_cell (six w j) ≡ false) → PutsChars punch_num w chars all → AreChars punch_num w chars
 good_put w chars true good puts = puts
 good_put w chars false good puts = absurd (false≢true (sym (good puts.place puts.ten) ∙ puts.bad))
 

@@ -21,10 +21,10 @@ use Rattle.read_checks.proofs.OneMore.{tally_more, tally_same, lines_after_more}
 use Rattle.card_unit.specs.declared.hopper.Hopper.{Hopper}
 use Rattle.card_unit.specs.declared.reader.CardIo.{CardIo}
 use Rattle.card_unit.specs.declared.reader.CardIo.TheVariants as io
-use Rattle.card_unit.specs.Counts.{cards_of}
+use Rattle.card_unit.specs.Counts.{counted_cards}
 use Rattle.card_unit.specs.Pile.{pile_left}
-use Rattle.card_unit.specs.Hopper.{hopper_left, line_read, Start, AreToCome, HasReadBy, HasRead, reading_of, ReadsOneMore}
-use Rattle.card_unit.specs.CardCalls.{HasReadOne, HasReadAsSaid, stored_ending}
+use Rattle.card_unit.specs.Hopper.{hopper_left, line_read, Start, AreToCome, HasReadCardsBy, HasReadCards, reading_of, ReadsOneMore}
+use Rattle.card_unit.specs.CardCalls.{HasReadOneCard, HasReadCardAsSaid, card_stored_ending}
 use Rattle.card_unit.proofs.ReadOn.{ahead_like, one_longer, none_stored}
 
 -- a blank is good
@@ -87,7 +87,7 @@ module _ (start : Start) (readings : List Reading) (next new : Hopper) (w : Worl
   length_so : length (readings ++ reading_of next text ∷ []) ≡ length (readings ++ card_stored ∷ [])
   length_so = one_longer readings (reading_of next text) ∙ sym (one_longer readings card_stored)
 
-  stored_so : HasReadBy start (readings ++ reading_of next text ∷ []) next w → HasReadBy start (readings ++ card_stored ∷ []) (record next { bad = with_bad (bad_in card_stored) next.bad }) w
+  stored_so : HasReadCardsBy start (readings ++ reading_of next text ∷ []) next w → HasReadCardsBy start (readings ++ card_stored ∷ []) (record next { bad = with_bad (bad_in card_stored) next.bad }) w
   stored_so by = record {
     ahead = ahead_like next (record next { bad = with_bad (bad_in card_stored) next.bad }) w refl refl refl by.ahead;
     numbered = numbered_so readings no_lines by.numbered;
@@ -95,32 +95,32 @@ module _ (start : Start) (readings : List Reading) (next new : Hopper) (w : Worl
     of_data = by.of_data ∙ lines_so units.Data;
     tallied = ap (with_bad (bad_in card_stored)) (by.tallied ∙ sym (tally_same readings (reading_of next text) (none_stored next text))) ∙ tally_more readings card_stored;
     all = subst (λ (es : List Entry). IfSome (hopper_left next w) (λ left. start.all ≡ es ++ left)) (map-append entry_read readings (reading_of next text ∷ []) ∙ sym (map-append entry_read readings (card_stored ∷ []))) by.all;
-    count = subst (λ (n : ℕ). IfSome (hopper_left next w) (λ left. next.read ≡ cards_of (length start.pile) n)) length_so by.count;
+    count = subst (λ (n : ℕ). IfSome (hopper_left next w) (λ left. next.read ≡ counted_cards (length start.pile) n)) length_so by.count;
     from = by.from;
     to_come = subst (λ (n : ℕ). IfSome (pile_left next.pile w) (λ left. AreToCome next.front next.from (length left) (length start.pile - n))) length_so by.to_come;
   }
 
   -- its bad characters were taken up
-  reading_stored : new ≡ record next { bad = with_bad (bad_in card_stored) next.bad } → HasReadBy start (readings ++ reading_of next text ∷ []) next w → HasReadBy start (readings ++ card_stored ∷ []) new w
-  reading_stored is by = subst (λ (h : Hopper). HasReadBy start (readings ++ card_stored ∷ []) h w) (sym is) (stored_so by)
+  reading_stored : new ≡ record next { bad = with_bad (bad_in card_stored) next.bad } → HasReadCardsBy start (readings ++ reading_of next text ∷ []) next w → HasReadCardsBy start (readings ++ card_stored ∷ []) new w
+  reading_stored is by = subst (λ (h : Hopper). HasReadCardsBy start (readings ++ card_stored ∷ []) h w) (sym is) (stored_so by)
 
 module _ (how : ReadAs) (room : ℕ) where
-  said_by : (start : Start) (readings : List Reading) (h : Hopper) (w : World) (answer : Result ⊤ Stop) (got : CardIo) → got ≡ stored_ending answer → HasReadOne how room start readings h w → HasReadAsSaid how room start readings h w got
-  said_by start readings h w (Ok done) got ends one = subst (λ (x : CardIo). HasReadAsSaid how room start readings h w x) (sym ends) one
-  said_by start readings h w (Err why) got ends one = subst (λ (x : CardIo). HasReadAsSaid how room start readings h w x) (sym ends) one
+  said_by : (start : Start) (readings : List Reading) (h : Hopper) (w : World) (answer : Result ⊤ Stop) (got : CardIo) → got ≡ card_stored_ending answer → HasReadOneCard how room start readings h w → HasReadCardAsSaid how room start readings h w got
+  said_by start readings h w (Ok done) got ends one = subst (λ (x : CardIo). HasReadCardAsSaid how room start readings h w x) (sym ends) one
+  said_by start readings h w (Err why) got ends one = subst (λ (x : CardIo). HasReadCardAsSaid how room start readings h w x) (sym ends) one
 
   -- a card that was taken is one reading more, with its bad characters
   pub card_said : (old next h : Hopper) (v w : World) (card : List ℕ) (space : ℕ) (answer : Result ⊤ Stop) (got : CardIo)
-      → ((start : Start) (readings : List Reading) → HasReadBy start readings old v → ReadsOneMore start readings next w card) → space ≡ room
-      → h ≡ record next { bad = with_bad (bad_from next.from (line_read next) how 1 (take space card)) next.bad } → got ≡ stored_ending answer
-      → (start : Start) (readings : List Reading) → HasReadBy start readings old v → HasReadAsSaid how room start readings h w got
+      → ((start : Start) (readings : List Reading) → HasReadCardsBy start readings old v → ReadsOneMore start readings next w card) → space ≡ room
+      → h ≡ record next { bad = with_bad (bad_from next.from (line_read next) how 1 (take space card)) next.bad } → got ≡ card_stored_ending answer
+      → (start : Start) (readings : List Reading) → HasReadCardsBy start readings old v → HasReadCardAsSaid how room start readings h w got
   card_said old next h v w card space answer got takes space_is is ends start readings had =
       let more = takes start readings had in
       let up : h ≡ record next { bad = with_bad (bad_from next.from (line_read next) how 1 (take space more.text)) next.bad } =
       is ∙ ap (λ (bad : List BadCharacter). record next { bad = with_bad bad next.bad }) (card_bad next.from (line_read next) how space card more.text more.filled) in
       said_by start readings h w answer got ends (card_stored start readings next h w more.text how space, refl, space_is, reading_stored start readings next h w more.text how space up more.by)
 
-  has_read : (start : Start) (readings : List Reading) (h : Hopper) (w : World) (got : CardIo) → HasReadAsSaid how room start readings h w got → HasRead start h w
+  has_read : (start : Start) (readings : List Reading) (h : Hopper) (w : World) (got : CardIo) → HasReadCardAsSaid how room start readings h w got → HasReadCards start h w
   has_read start readings h w io.Done said = record { readings = readings ++ said.0 ∷ []; by = said.3 }
   has_read start readings h w (io.Stop why) said = record { readings = readings ++ said.0 ∷ []; by = said.3 }
   has_read start readings h w io.Empty said = record { readings = readings; by = said }
@@ -128,6 +128,6 @@ module _ (how : ReadAs) (room : ℕ) where
   has_read start readings h w io.Failed said = record { readings = readings; by = said }
 
   -- so it goes on with what it has read
-  pub goes_on : (old h : Hopper) (v w : World) (got : CardIo) → ((start : Start) (readings : List Reading) → HasReadBy start readings old v → HasReadAsSaid how room start readings h w got)
-      → (start : Start) → HasRead start old v → HasRead start h w
+  pub goes_on : (old h : Hopper) (v w : World) (got : CardIo) → ((start : Start) (readings : List Reading) → HasReadCardsBy start readings old v → HasReadCardAsSaid how room start readings h w got)
+      → (start : Start) → HasReadCards start old v → HasReadCards start h w
   goes_on old h v w got said start read = has_read start read.readings h w got (said start read.readings read.by)

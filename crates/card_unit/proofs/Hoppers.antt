@@ -4,14 +4,14 @@ use Rattle.std.specs.Prelude.{Option, Some, None, option_map, ◌||◌, Ok, Err}
 use Rattle.outside_io.specs.declared.host.Unit as unit
 use Rattle.outside_io.specs.declared.host.Unit.TheVariants as units
 use Rattle.outside_io.specs.World.{World, Seen, same_unit}
-use Rattle.outside_io.specs.Frame.{Given, Keeps}
+use Rattle.outside_io.specs.Frame.{ToldValue, Keeps}
 use Rattle.outside_io.proofs.Frames.{keeps_on, keeps_taken}
 use Rattle.traces.specs.Break.{Empty, Jam}
 use Rattle.card_code.specs.declared.lines.Lines.{Lines}
 use Rattle.card_code.specs.declared.lines.More.{More}
 use Rattle.card_code.specs.declared.lines.More.TheVariants as more
 use Rattle.card_code.specs.Entries.{Entry, Text, Long, entries_of_unit, behind, text_as_card, next_card}
-use Rattle.card_code.specs.Reader.{unit_of, lines_handed_out, bytes_held, entries_left, Moves, Fronts, HasNone, HasSome, MoreEntries}
+use Rattle.card_code.specs.Reader.{unit_of, lines_handed_out, bytes_held, entries_left, AsksUnit, Fronts, HasNone, HasSome, MoreEntries}
 use Rattle.card_unit.specs.declared.front.Front.{Front}
 use Rattle.card_unit.specs.declared.front.Held.{Held}
 use Rattle.card_unit.specs.declared.front.Held.TheVariants as held
@@ -20,9 +20,9 @@ use Rattle.card_unit.specs.declared.pile.Pile.{Pile}
 use Rattle.card_unit.specs.declared.pile.Pile.TheVariants as pile
 use Rattle.card_unit.specs.declared.hopper.Hopper.{Hopper}
 use Rattle.card_unit.specs.Pile.{pile_left, pile_unit, no_unit, is_card_unit, LooksAt}
-use Rattle.card_unit.specs.Hopper.{entries_in_order, front_left, hopper_left, hopper_feed, Looks, Holds, SaysBehind, HasBehind, TellsAtLeast, DataStays}
-use Rattle.card_code.specs.Feed.{Stays, Gives, Lacks}
-use Rattle.card_unit.proofs.Joined.{given_none, none_after, some_after, jam_pile, jam_data, given_long, given_card, behind_front}
+use Rattle.card_unit.specs.Hopper.{entries_in_order, front_left, hopper_left, hopper_feed, LooksAtHopper, Holds, SaysBehind, HasBehind, TellsAtLeast, DataStays}
+use Rattle.card_code.specs.Feed.{Stays, GivesEntry, Lacks}
+use Rattle.card_unit.proofs.HopperOrder.{given_none, none_after, some_after, jam_pile, jam_data, given_long, given_card, behind_front}
 
 -- what looks at one unit looks at fewer than what looks at more
 looks_wide : (reads more : unit.Unit → Bool) (before after : Seen) → ((u : unit.Unit) → more u ≡ false → reads u ≡ false) → LooksAt reads before after → LooksAt more before after
@@ -37,18 +37,18 @@ or_false true b none = cc
 or_false false b none = (refl, none)
 
 -- a look at the pile, or at the data, is a look at the hopper
-pub looks_pile : (before after : Seen) → LooksAt (same_unit units.Deck) before after → Looks before after
+pub looks_pile : (before after : Seen) → LooksAt (same_unit units.Deck) before after → LooksAtHopper before after
 looks_pile before after looks = looks_wide (same_unit units.Deck) is_card_unit before after (λ u other. (or_false (same_unit units.Deck u) (same_unit units.Data u) other).0) looks
 
-pub looks_data : (before after : Seen) → LooksAt (same_unit units.Data) before after → Looks before after
+pub looks_data : (before after : Seen) → LooksAt (same_unit units.Data) before after → LooksAtHopper before after
 looks_data before after looks = looks_wide (same_unit units.Data) is_card_unit before after (λ u other. (or_false (same_unit units.Deck u) (same_unit units.Data u) other).1) looks
 
 -- one look after another
-pub looks_on : (before mid after : Seen) → Looks before mid → Looks mid after → Looks before after
+pub looks_on : (before mid after : Seen) → LooksAtHopper before mid → LooksAtHopper mid after → LooksAtHopper before after
 looks_on before mid after first second = record { later = omega (arith, first.later, second.later); keeps = keeps_on is_card_unit no_unit false before.world mid.world after.world first.keeps second.keeps }
 
 -- a reader that takes bytes looks at its unit
-pub looks_moved : (u : unit.Unit) (old new : Lines) (before after : Seen) → unit_of old ≡ u → Moves old new before after → LooksAt (same_unit u) before after
+pub looks_moved : (u : unit.Unit) (old new : Lines) (before after : Seen) → unit_of old ≡ u → AsksUnit old new before after → LooksAt (same_unit u) before after
 looks_moved u old new before after is moves = record {
   later = moves.goes.later;
   keeps = subst (λ (v : unit.Unit). Keeps (same_unit v) no_unit false before.world after.world) is
@@ -147,7 +147,7 @@ module _ (old new : Hopper) (mid : Pile) (before between after : Seen) (looks : 
       let end_rest : HasNone (entries_left old.data before.world) = subst HasNone (rest_apart old before between looks) end in
       record {
         stays = rest_stays;
-        given = subst (λ (es : List Entry). Given (entries_in_order es (pile_left old.pile before.world) (entries_left old.data before.world)) (λ es. next_card es ≡ Err Empty)) (sym (ap front_left none))
+        given = subst (λ (es : List Entry). ToldValue (entries_in_order es (pile_left old.pile before.world) (entries_left old.data before.world)) (λ es. next_card es ≡ Err Empty)) (sym (ap front_left none))
             (given_none (pile_left old.pile before.world) (entries_left old.data before.world) over end_rest);
       }
 
@@ -178,7 +178,7 @@ held_stays old new before after held.Failed holds = holds.stays
 
 -- What stands at the front is taken as a card.
 pub front_taken : (old mid end new : Hopper) (before between after : Seen) (front : Front) (last : Bool) (text : List ℕ) → Stays hopper_feed old mid before between → mid.front ≡ Some front → SaysBehind mid end between after last
-    → new.front ≡ None → new.pile ≡ end.pile → new.data ≡ end.data → text ≡ text_as_card (front_text front) → Gives hopper_feed old new before after (record { text = text; last = last })
+    → new.front ≡ None → new.pile ≡ end.pile → new.data ≡ end.data → text ≡ text_as_card (front_text front) → GivesEntry hopper_feed old new before after (record { text = text; last = last })
 front_taken old mid end new before between after front last text stays holds says none pile rest is =
     let whole : entries_in_order (Text (front_text front) ∷ []) (pile_left end.pile after.world) (entries_left end.data after.world) ≡ hopper_left old before.world =
     sym (ap (λ f. entries_in_order (front_left f) (pile_left end.pile after.world) (entries_left end.data after.world)) (says.front ∙ holds)) ∙ says.stays.left ∙ stays.left in
@@ -187,8 +187,8 @@ front_taken old mid end new before between after front last text stays holds say
       looks = looks_on before between after stays.looks says.stays.looks;
       left = same_joined _ _ _ _ _ _ (ap front_left none) (ap (λ (p : Pile). pile_left p after.world) pile) (ap (λ (lines : Lines). entries_left lines after.world) rest)
           ∙ behind_front (front_text front) (pile_left end.pile after.world) (entries_left end.data after.world) ∙ ap (λ (told : Option (List Entry)). option_map behind told) whole;
-      given = subst (λ (t : List ℕ). Given (hopper_left old before.world) (λ es. next_card es ≡ Ok (record { text = t; last = last }))) (sym is)
-          (subst (λ (told : Option (List Entry)). Given told (λ es. next_card es ≡ Ok (record { text = text_as_card (front_text front); last = last }))) whole given);
+      given = subst (λ (t : List ℕ). ToldValue (hopper_left old before.world) (λ es. next_card es ≡ Ok (record { text = t; last = last }))) (sym is)
+          (subst (λ (told : Option (List Entry)). ToldValue told (λ es. next_card es ≡ Ok (record { text = text_as_card (front_text front); last = last }))) whole given);
     }
 
 -- two entries at least in the deck are one at least there, and one behind it

@@ -1,5 +1,5 @@
 pub mod Piles
-pub mod Joined
+pub mod HopperOrder
 pub mod Hoppers
 pub mod Ahead
 pub mod ReadOn

@@ -11,7 +11,7 @@ use Rattle.outside_io.specs.Whole.{Stops}
 use Rattle.outside_io.proofs.Worlds.{added_to-nil, adds_on}
 use Rattle.addr_indirect.specs.declared.Stop.{Stop}
 use Rattle.traces.specs.Trace.{Trace, ends, after_answer, lift}
-use Rattle.card_code.specs.TextOut.{Output, Writes, bytes_of, lamps_of}
+use Rattle.card_code.specs.TextOut.{Output, Writes, bytes_out, lamps_of}
 use Rattle.card_code.specs.Written.{Wrote, WroteFirst, CarriedOut, WrotePairs, WroteFirstPairs}
 use Rattle.card_code.proofs.TextsOut.{bytes_of-append, lamps_of-append}
 use Rattle.card_unit.specs.declared.reader.CardIo.{CardIo}
@@ -56,7 +56,7 @@ card_broken text t now after stops = record {
 }
 
 -- bytes alone, as effects
-writes_bytes : (bytes : List ℕ) → bytes_of (map Writes bytes) ≡ bytes
+writes_bytes : (bytes : List ℕ) → bytes_out (map Writes bytes) ≡ bytes
 writes_bytes [] = refl
 writes_bytes (b ∷ bytes) = ap (λ (x : List ℕ). b ∷ x) (writes_bytes bytes)
 
@@ -68,10 +68,10 @@ take_writes : (n : ℕ) (bytes : List ℕ) → take n (map Writes bytes) ≡ map
 take_writes n bytes = take-map Writes n bytes
 
 -- Pairs were read, with these changes of the panel, and then these bytes went out.
-module _ (es : List Output) (panel new_panel : Panel) (silent : bytes_of es ≡ []) (seen : new_panel ≡ panel_after panel (lamps_of es)) where
+module _ (es : List Output) (panel new_panel : Panel) (silent : bytes_out es ≡ []) (seen : new_panel ≡ panel_after panel (lamps_of es)) where
   put_all : (bytes : List ℕ) (now after : Seen) → Goes now after (world_after_put units.Punched bytes now.world) → CarriedOut units.Punched (es ++ map Writes bytes) panel now new_panel after
   put_all bytes now after goes =
-      let all : bytes_of (es ++ map Writes bytes) ≡ bytes = bytes_of-append es (map Writes bytes) ∙ ap (λ (x : List ℕ). x ++ bytes_of (map Writes bytes)) silent ∙ writes_bytes bytes in
+      let all : bytes_out (es ++ map Writes bytes) ≡ bytes = bytes_of-append es (map Writes bytes) ∙ ap (λ (x : List ℕ). x ++ bytes_out (map Writes bytes)) silent ∙ writes_bytes bytes in
       let lamps : lamps_of (es ++ map Writes bytes) ≡ lamps_of es = lamps_of-append es (map Writes bytes) ∙ ap (λ (x : List Lamp). lamps_of es ++ x) (writes_no_lamp bytes) ∙ append-nil (lamps_of es) in
       record {
         goes = subst (λ (x : List ℕ). Goes now after (world_after_put units.Punched x now.world)) (sym all) goes;

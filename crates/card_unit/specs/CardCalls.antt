@@ -13,52 +13,52 @@ use Rattle.read_checks.specs.Readings.{Reading, bad_from, with_bad}
 use Rattle.card_unit.specs.declared.hopper.Hopper.{Hopper}
 use Rattle.card_unit.specs.declared.reader.CardIo.{CardIo}
 use Rattle.card_unit.specs.declared.reader.CardIo.TheVariants as io
-use Rattle.card_unit.specs.Hopper.{hopper_feed, line_read, Start, HasReadBy}
+use Rattle.card_unit.specs.Hopper.{hopper_feed, line_read, Start, HasReadCardsBy}
 use Rattle.card_code.specs.Feed.{Station, ReadsIn}
 use Rattle.indicators.specs.declared.codes.TheConstants.{LAST_CARD}
 
 -- the panel once a card was taken: the last-card indicator goes on where it was the last, and else stays
-abbrev pub with_last : Bool → Panel → Panel
-with_last last panel = if last then set LAST_CARD true panel else panel
+abbrev pub panel_after_card : Bool → Panel → Panel
+panel_after_card last panel = if last then set LAST_CARD true panel else panel
 
 -- how a reading ended; None where the host failed
-abbrev pub reading_ending : CardIo → Option (Result ⊤ Break)
-reading_ending io.Done = Some (Ok tt)
-reading_ending (io.Stop why) = Some (Err (Stops why))
-reading_ending io.Empty = Some (Err Empty)
-reading_ending (io.Jam u n) = Some (Err (Jam u n))
-reading_ending io.Failed = None
+abbrev pub card_reading_ending : CardIo → Option (Result ⊤ Break)
+card_reading_ending io.Done = Some (Ok tt)
+card_reading_ending (io.Stop why) = Some (Err (Stops why))
+card_reading_ending io.Empty = Some (Err Empty)
+card_reading_ending (io.Jam u n) = Some (Err (Jam u n))
+card_reading_ending io.Failed = None
 
 -- what a reading with the trace t does
-abbrev pub Reads : (List Entry → Trace Intake ⊤ Break) → Station Hopper → Station Hopper → CardIo → Type 0
-Reads t old new answer = ReadsIn hopper_feed t old new (reading_ending answer)
+abbrev pub ReadsCardBy : (List Entry → Trace Intake ⊤ Break) → Station Hopper → Station Hopper → CardIo → Type 0
+ReadsCardBy t old new answer = ReadsIn hopper_feed t old new (card_reading_ending answer)
 
 -- a card was read so, and there was room in core for so many of its characters: one reading more
-abbrev pub HasReadOne : ReadAs → ℕ → Start → List Reading → Hopper → World → Type 0
-HasReadOne how room start readings h w =
-    (r : Reading) × (r.how ≡ how) × (r.room ≡ room) × HasReadBy start (readings ++ r ∷ []) h w
+abbrev pub HasReadOneCard : ReadAs → ℕ → Start → List Reading → Hopper → World → Type 0
+HasReadOneCard how room start readings h w =
+    (r : Reading) × (r.how ≡ how) × (r.room ≡ room) × HasReadCardsBy start (readings ++ r ∷ []) h w
 
 -- where none was read, none more
-abbrev pub HasReadAsSaid : ReadAs → ℕ → Start → List Reading → Hopper → World → CardIo → Type 0
-HasReadAsSaid how room start readings h w io.Done = HasReadOne how room start readings h w
-HasReadAsSaid how room start readings h w (io.Stop why) = HasReadOne how room start readings h w
-HasReadAsSaid how room start readings h w io.Empty = HasReadBy start readings h w
-HasReadAsSaid how room start readings h w (io.Jam u n) = HasReadBy start readings h w
-HasReadAsSaid how room start readings h w io.Failed = HasReadBy start readings h w
+abbrev pub HasReadCardAsSaid : ReadAs → ℕ → Start → List Reading → Hopper → World → CardIo → Type 0
+HasReadCardAsSaid how room start readings h w io.Done = HasReadOneCard how room start readings h w
+HasReadCardAsSaid how room start readings h w (io.Stop why) = HasReadOneCard how room start readings h w
+HasReadCardAsSaid how room start readings h w io.Empty = HasReadCardsBy start readings h w
+HasReadCardAsSaid how room start readings h w (io.Jam u n) = HasReadCardsBy start readings h w
+HasReadCardAsSaid how room start readings h w io.Failed = HasReadCardsBy start readings h w
 
 -- what a reading adds to what the hopper has read
-abbrev pub ReadsAsSaid : ReadAs → ℕ → Hopper → Hopper → Seen → Seen → CardIo → Type 0
-ReadsAsSaid how room old new before after answer = (start : Start) (readings : List Reading)
-    → HasReadBy start readings old before.world → HasReadAsSaid how room start readings new after.world answer
+abbrev pub ReadsCardAsSaid : ReadAs → ℕ → Hopper → Hopper → Seen → Seen → CardIo → Type 0
+ReadsCardAsSaid how room old new before after answer = (start : Start) (readings : List Reading)
+    → HasReadCardsBy start readings old before.world → HasReadCardAsSaid how room start readings new after.world answer
 
 -- a hopper that has taken up the bad ones of some characters of the card that was read last
 abbrev pub with_taken_up : ReadAs → List ℕ → Hopper → Hopper
 with_taken_up how stored h = record h { bad = with_bad (bad_from h.from (line_read h) how 1 stored) h.bad }
 
 -- how a reading ends of whose card so much was stored
-abbrev pub stored_ending : Result ⊤ Stop → CardIo
-stored_ending (Ok done) = io.Done
-stored_ending (Err why) = io.Stop why
+abbrev pub card_stored_ending : Result ⊤ Stop → CardIo
+card_stored_ending (Ok done) = io.Done
+card_stored_ending (Err why) = io.Stop why
 
 -- what the punching of these bytes does
 abbrev pub Punches : Trace ℕ ⊤ Stop → Seen → Seen → CardIo → Type 0

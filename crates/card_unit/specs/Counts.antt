@@ -12,10 +12,10 @@ one_more_read units.Data read = record { of_deck = read.of_deck; of_data = one_m
 one_more_read u read = record { of_deck = one_more read.of_deck; of_data = read.of_data }
 
 -- the number in its unit of the card that was read last
-abbrev pub line_of : unit.Unit → CardsRead → ℕ
-line_of units.Data read = read.of_data
-line_of u read = read.of_deck
+abbrev pub last_card_number : unit.Unit → CardsRead → ℕ
+last_card_number units.Data read = read.of_data
+last_card_number u read = read.of_deck
 
 -- so many cards were read of a pile with so many, and of Data behind it, when so many were read in all
-abbrev pub cards_of : ℕ → ℕ → CardsRead
-cards_of pile taken = record { of_deck = counted (min taken pile); of_data = counted (taken - pile) }
+abbrev pub counted_cards : ℕ → ℕ → CardsRead
+counted_cards pile taken = record { of_deck = counted (min taken pile); of_data = counted (taken - pile) }

@@ -8,14 +8,14 @@ use Rattle.card_code.specs.declared.Card.{Card}
 use Rattle.card_code.specs.declared.lines.Lines.{Lines}
 use Rattle.card_code.specs.declared.lines.More.{More}
 use Rattle.card_code.specs.declared.lines.More.TheVariants as more
-use Rattle.card_code.specs.{Entry, Text, Long, Taken, hopper_of, behind, is_empty, next_card, text_as_card, entries_left, HasNone}
-use Rattle.card_code.specs.Feed.{Feed, Stays, Lacks, Fails, TakesNext}
+use Rattle.card_code.specs.{Entry, Text, Long, Taken, hopper_of, behind, has_none_left, next_card, text_as_card, entries_left, HasNone}
+use Rattle.card_code.specs.Feed.{Feed, Stays, Lacks, FailsToTake, TakesNext}
 use Rattle.card_code.specs.Reader as lines
 use Rattle.read_checks.specs.declared.ReadAs.TheVariants as how
 use Rattle.read_checks.specs.declared.Tally.{Tally}
 use Rattle.read_checks.specs.Readings.{Reading, AreNumbered, no_lines, lines_after, all_bad, tally_of, entry_read}
 use Rattle.card_unit.specs.declared.counts.CardsRead.{CardsRead}
-use Rattle.card_unit.specs.Counts.{line_of, cards_of}
+use Rattle.card_unit.specs.Counts.{last_card_number, counted_cards}
 use Rattle.card_unit.specs.declared.hopper.Hopper.{Hopper}
 use Rattle.card_unit.specs.declared.hopper.CardAnswer.{CardAnswer}
 use Rattle.card_unit.specs.declared.hopper.CardAnswer.TheVariants as answer
@@ -60,12 +60,12 @@ abbrev pub behind_left : Hopper → World → Option (List Entry)
 behind_left h w = entries_in_order [] (pile_left h.pile w) (entries_left h.data w)
 
 -- bytes of the hopper's units may be taken, and nothing else outside changed
-abbrev pub Looks : Seen → Seen → Type 0
-Looks before after = LooksAt is_card_unit before after
+abbrev pub LooksAtHopper : Seen → Seen → Type 0
+LooksAtHopper before after = LooksAt is_card_unit before after
 
 -- how cards are taken from a hopper
 abbrev pub hopper_feed : Feed Hopper Taken
-hopper_feed = record { left = hopper_left; Looks = Looks; next = next_card }
+hopper_feed = record { left = hopper_left; Looks = LooksAtHopper; next = next_card }
 
 -- how the taking of a card ended; None where the host failed
 abbrev pub card_ending : CardAnswer → Option (Result Taken Break)
@@ -83,19 +83,19 @@ abbrev pub Holds : Hopper → Hopper → Seen → Seen → Held → Type 0
 Holds old new before after held.AtFront = Stays hopper_feed old new before after
 Holds old new before after held.Empty = Lacks hopper_feed old new before after Empty
 Holds old new before after (held.Jam u n) = Lacks hopper_feed old new before after (Jam u n)
-Holds old new before after held.Failed = Fails hopper_feed old new before after
+Holds old new before after held.Failed = FailsToTake hopper_feed old new before after
 
 -- whether nothing stands behind the front
 pub record SaysBehind (old new : Hopper) (before after : Seen) (none : Bool) : Type 0 where
   pub stays : Stays hopper_feed old new before after
   pub front : new.front ≡ old.front
-  pub says : IfSome (behind_left new after.world) (λ es. is_empty es ≡ none)
+  pub says : IfSome (behind_left new after.world) (λ es. has_none_left es ≡ none)
 
 -- what the look behind the front does
 abbrev pub HasBehind : Hopper → Hopper → Seen → Seen → More → Type 0
 HasBehind old new before after more.Yes = SaysBehind old new before after false
 HasBehind old new before after more.No = SaysBehind old new before after true
-HasBehind old new before after more.Failed = Fails hopper_feed old new before after
+HasBehind old new before after more.Failed = FailsToTake hopper_feed old new before after
 
 -- The deck, which is what stands before the cards of Data.
 
@@ -133,7 +133,7 @@ FrontIs first (e ∷ es) = e ≡ first
 -- so is the card of this text; it isn't the last where another entry stands behind it
 abbrev pub CardIs : List ℕ → Bool → List Entry → Type 0
 CardIs text last [] = ⊤
-CardIs text last (Text t ∷ es) = (text ≡ text_as_card t) × (is_empty es ≡ false → last ≡ false)
+CardIs text last (Text t ∷ es) = (text ≡ text_as_card t) × (has_none_left es ≡ false → last ≡ false)
 CardIs text last (Long u n ∷ es) = ⊥
 
 -- the deck's first card is taken, or one of Data where the deck has none
@@ -188,19 +188,19 @@ IsDataLater front reader w left = lines.IsInTurn reader w ⊎ ((left ≡ []) × 
 -- A HOPPER ONE AHEAD: no card was asked for before its turn. Deck and Data were asked for no more than the cards that were taken and the next one
 -- need, and for one look behind each card that was taken at whether a byte is left. A card that stands at the front, where the host failed in
 -- that look, was to be taken next. Where the pile is told, no look was made at Data while the pile had another card.
-pub record IsOneAhead (h : Hopper) (w : World) : Type 0 where
+pub record IsHopperAhead (h : Hopper) (w : World) : Type 0 where
   pub pile : IsPileReady h.front h.pile w
   pub reader : lines.IsOneAhead h.data w
   pub later : IfSome (pile_left h.pile w) (IsDataLater h.front h.data w)
 
 -- that stays so
 abbrev pub KeepsAhead : Hopper → Hopper → Seen → Seen → Type 0
-KeepsAhead old new before after = IsOneAhead old before.world → IsOneAhead new after.world
+KeepsAhead old new before after = IsHopperAhead old before.world → IsHopperAhead new after.world
 
 -- what the look behind the front leaves one ahead: the hopper once its card is taken, or as it stands where the host failed
 abbrev pub IsAheadBehind : Hopper → World → More → Type 0
-IsAheadBehind h w more.Failed = IsOneAhead h w
-IsAheadBehind h w got = IsOneAhead (record h { front = None }) w
+IsAheadBehind h w more.Failed = IsHopperAhead h w
+IsAheadBehind h w got = IsHopperAhead (record h { front = None }) w
 
 -- What was read.
 
@@ -214,7 +214,7 @@ bad_cards h = h.bad
 
 -- the number in its unit of the card that was read last
 abbrev pub line_read : Hopper → ℕ
-line_read h = line_of h.from h.read
+line_read h = last_card_number h.from h.read
 
 -- what stood in a hopper as it was made, where that was told: the entries of its pile, and all of its entries
 pub record Start : Type 0 where
@@ -235,27 +235,27 @@ AreToCome (Some front) u left to_come = left + 1 ≡ to_come
 -- WHAT A HOPPER HAS READ since it was made, by the readings of its cards in their order: they are numbered as the cards of their units, and
 -- the tally is of the bad characters that were stored of them. Where the cards that it had were told, those that were read and those that are
 -- left are all of them. No card was asked for before its turn.
-pub record HasReadBy (start : Start) (readings : List Reading) (h : Hopper) (w : World) : Type 0 where
-  pub ahead : IsOneAhead h w
+pub record HasReadCardsBy (start : Start) (readings : List Reading) (h : Hopper) (w : World) : Type 0 where
+  pub ahead : IsHopperAhead h w
   pub numbered : AreNumbered readings no_lines
   pub of_deck : h.read.of_deck ≡ lines_after readings no_lines units.Deck
   pub of_data : h.read.of_data ≡ lines_after readings no_lines units.Data
   pub tallied : h.bad ≡ tally_of (all_bad readings)
   pub all : IfSome (hopper_left h w) (λ left. start.all ≡ map entry_read readings ++ left)
-  pub count : IfSome (hopper_left h w) (λ left. h.read ≡ cards_of (length start.pile) (length readings))
+  pub count : IfSome (hopper_left h w) (λ left. h.read ≡ counted_cards (length start.pile) (length readings))
   -- the unit of the card that came to the front last, and how many cards of the pile are still to be read
   pub from : IsOfCards h.from
   pub to_come : IfSome (pile_left h.pile w) (λ left. AreToCome h.front h.from (length left) (length start.pile - length readings))
 
 -- it has read some cards
-pub record HasRead (start : Start) (h : Hopper) (w : World) : Type 0 where
+pub record HasReadCards (start : Start) (h : Hopper) (w : World) : Type 0 where
   pub readings : List Reading
-  pub by : HasReadBy start readings h w
+  pub by : HasReadCardsBy start readings h w
 
 -- it has read the same cards still
-abbrev pub ReadsNone : Hopper → Hopper → Seen → Seen → Type 0
-ReadsNone old new before after =
-    (start : Start) (readings : List Reading) → HasReadBy start readings old before.world → HasReadBy start readings new after.world
+abbrev pub ReadsNoCard : Hopper → Hopper → Seen → Seen → Type 0
+ReadsNoCard old new before after =
+    (start : Start) (readings : List Reading) → HasReadCardsBy start readings old before.world → HasReadCardsBy start readings new after.world
 
 -- the reading of the card that was taken last, of which nothing was stored yet
 abbrev pub reading_of : Hopper → List ℕ → Reading
@@ -265,16 +265,16 @@ reading_of h text = record { unit = h.from; line = line_read h; text = text; how
 pub record ReadsOneMore (start : Start) (readings : List Reading) (h : Hopper) (w : World) (card : List ℕ) : Type 0 where
   pub text : List ℕ
   pub filled : card ≡ text_as_card text
-  pub by : HasReadBy start (readings ++ reading_of h text ∷ []) h w
+  pub by : HasReadCardsBy start (readings ++ reading_of h text ∷ []) h w
 
 -- what the taking of a card adds to what was read: the card that was taken
 abbrev pub AddsCard : Start → List Reading → Hopper → World → CardAnswer → Type 0
 AddsCard start readings h w (answer.Card card last) = ReadsOneMore start readings h w card.0
-AddsCard start readings h w got = HasReadBy start readings h w
+AddsCard start readings h w got = HasReadCardsBy start readings h w
 
 abbrev pub ReadsNext : Hopper → Hopper → Seen → Seen → CardAnswer → Type 0
 ReadsNext old new before after got =
-    (start : Start) (readings : List Reading) → HasReadBy start readings old before.world → AddsCard start readings new after.world got
+    (start : Start) (readings : List Reading) → HasReadCardsBy start readings old before.world → AddsCard start readings new after.world got
 
 -- what was read, and of which unit the card at the front is, stay as they are
 pub record HasSameRead (old new : Hopper) : Type 0 where
@@ -283,10 +283,10 @@ pub record HasSameRead (old new : Hopper) : Type 0 where
   pub bad : new.bad ≡ old.bad
 
 -- it goes on with that
-abbrev pub ReadsOn : Hopper → Hopper → Seen → Seen → Type 0
-ReadsOn old new before after = (start : Start) → HasRead start old before.world → HasRead start new after.world
+abbrev pub GoesOnReadingCards : Hopper → Hopper → Seen → Seen → Type 0
+GoesOnReadingCards old new before after = (start : Start) → HasReadCards start old before.world → HasReadCards start new after.world
 
 -- it has read nothing yet
-abbrev pub Begins : Hopper → Type 0
-Begins h = (start : Start) (w : World) → IfSome (deck_left h w) (λ left. start.pile ≡ left) → IfSome (hopper_left h w) (λ left. start.all ≡ left)
-    → HasRead start h w
+abbrev pub IsNewHopper : Hopper → Type 0
+IsNewHopper h = (start : Start) (w : World) → IfSome (deck_left h w) (λ left. start.pile ≡ left) → IfSome (hopper_left h w) (λ left. start.all ≡ left)
+    → HasReadCards start h w

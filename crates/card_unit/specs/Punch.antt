@@ -2,7 +2,7 @@
 -- Source: 1622 manual, write numerically, write alphamerically and dump numerically; when a card goes out, and that the
 -- last one is filled with blanks, are this project's own.
 use Rattle.std.specs.Prelude.{ℕ, zero, suc, false, ◌≡◌, ◌<◌, ◌≤◌, ◌+◌, ◌-◌, ◌==◌, List, [], ◌∷◌, ◌++◌, length, map, drop, slice_index, if◌then◌else◌, Result, Ok, ⊤}
-use Rattle.digit_core.specs.{read_cell, six, is_bad}
+use Rattle.digit_core.specs.{read_cell, six, is_bad_cell}
 use Rattle.addr_indirect.specs.declared.Stop.{Stop}
 use Rattle.addr_indirect.specs.Reading.{read_at, read_up, or_stop}
 use Rattle.traces.specs.Trace.{Trace, ends, does_all, ◌>>=◌, and_then, with_answer, lift, map_answer}
@@ -61,4 +61,4 @@ columns_text core a n = map_answer (λ ds. text_as_card (map punch_num ds)) (rea
 pub record HasGoodTen (core : List ℕ) (a w : ℕ) : Type 0 where
   pub room : a + 10 ≤ length core
   pub cells : (j : ℕ) → j < 10 → six w j ≡ slice_index core (a + j)
-  pub good : (j : ℕ) → j < 10 → is_bad (six w j) ≡ false
+  pub good : (j : ℕ) → j < 10 → is_bad_cell (six w j) ≡ false

@@ -18,9 +18,9 @@ abbrev pub take_card : List Entry → (List ℕ → Trace Change ⊤ Stop) → T
 take_card hopper stored = take_next next_card hopper (store_card stored)
 
 -- RN from a card: its 80 digits go from P upwards, in a core of n positions
-abbrev pub read_numeric : ℕ → ℕ → List Entry → Trace Intake ⊤ Break
-read_numeric n p hopper = take_card hopper (store_digits n p)
+abbrev pub read_card_numeric : ℕ → ℕ → List Entry → Trace Intake ⊤ Break
+read_card_numeric n p hopper = take_card hopper (store_digits n p)
 
 -- RA from a card: its 80 pairs go from P-1 upwards
-abbrev pub read_alphameric : ℕ → ℕ → List Entry → Trace Intake ⊤ Break
-read_alphameric n p hopper = take_card hopper (store_pairs n (p - 1))
+abbrev pub read_card_alphameric : ℕ → ℕ → List Entry → Trace Intake ⊤ Break
+read_card_alphameric n p hopper = take_card hopper (store_pairs n (p - 1))

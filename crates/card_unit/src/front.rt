@@ -1,7 +1,7 @@
 // What stands at the front of a hopper.
 ghost use Rattle.std.specs.Prelude.{◌≡◌};
 ghost use Rattle.card_code.specs.{text_as_card, unit_of, entries_left};
-ghost use Rattle.card_code.specs.Reader.{Moves, IsInTurn, IsOneAhead};
+ghost use Rattle.card_code.specs.Reader.{AsksUnit, IsInTurn, IsOneAhead};
 ghost use Rattle.card_unit.specs.Front.{HoldsNext};
 
 use card_code::{Card, Line, LineAnswer, Lines};
@@ -57,7 +57,7 @@ pub(crate) fn hold_line<H: Host>(
     requires { unit_of lines.old ≡ unit }
     ensures entry { HoldsNext front.old front.new (entries_left lines.old (H.seen host.old).world)
         (entries_left lines.new (H.seen host.new).world) (H.seen host.old) (H.seen host.new) result }
-    ensures moves { Moves lines.old lines.new (H.seen host.old) (H.seen host.new) }
+    ensures moves { AsksUnit lines.old lines.new (H.seen host.old) (H.seen host.new) }
     ensures turn { IsOneAhead lines.old (H.seen host.old).world → IsInTurn lines.new (H.seen host.new).world }
 {
     match lines.next_line(host) {

@@ -61,7 +61,7 @@ pub struct Hopper {
 }
 
 impl Hopper {
-    ghost use Rattle.card_unit.specs.Hopper.{Begins, ReadsOn, cards_read, bad_cards, line_read, hopper_left, own_cards, cards_and_data, deck_and_data, Holds, HasBehind, NextCard, deck_left, card_texts, LeavesData, NextOfDeck, ReadsNext, ReadsNone, HasSameRead, HoldsOfDeck, LooksBehind, IsOneAhead, KeepsAhead, IsAheadBehind};
+    ghost use Rattle.card_unit.specs.Hopper.{IsNewHopper, GoesOnReadingCards, cards_read, bad_cards, line_read, hopper_left, own_cards, cards_and_data, deck_and_data, Holds, HasBehind, NextCard, deck_left, card_texts, LeavesData, NextOfDeck, ReadsNext, ReadsNoCard, HasSameRead, HoldsOfDeck, LooksBehind, IsHopperAhead, KeepsAhead, IsAheadBehind};
 
     /// A hopper that holds these cards, and behind them those of the unit Data.
     ///
@@ -71,7 +71,7 @@ impl Hopper {
             hopper_left result w ≡ cards_and_data (card_texts cards.items) w }
         ensures deck { (w : World) → deck_left result w ≡ Some (map Text (card_texts cards.items)) }
         ensures own { own_cards result ≡ Some (card_texts cards.items) }
-        ensures begins { Begins result }
+        ensures begins { IsNewHopper result }
     {
         Hopper {
             front: None,
@@ -90,7 +90,7 @@ impl Hopper {
         ensures left { (w : World) → hopper_left result w ≡ deck_and_data w }
         ensures deck { (w : World) → deck_left result w ≡ unit_entries units.Deck w }
         ensures own { own_cards result ≡ None }
-        ensures begins { Begins result }
+        ensures begins { IsNewHopper result }
     {
         Hopper {
             front: None,
@@ -124,7 +124,7 @@ impl Hopper {
         ensures alone { LeavesData 2 self.old (H.seen host.old) (H.seen host.new) }
         ensures own { own_cards self.new ≡ own_cards self.old }
         ensures reads { ReadsNext self.old self.new (H.seen host.old) (H.seen host.new) result }
-        ensures reads_on { ReadsOn self.old self.new (H.seen host.old) (H.seen host.new) }
+        ensures reads_on { GoesOnReadingCards self.old self.new (H.seen host.old) (H.seen host.new) }
     {
         match self.hold(host) {
             Held::AtFront => {}
@@ -187,7 +187,7 @@ impl Hopper {
         ensures alone { LeavesData 1 self.old (H.seen host.old) (H.seen host.new) }
         ensures own { own_cards self.new ≡ own_cards self.old }
         ensures ahead { KeepsAhead self.old self.new (H.seen host.old) (H.seen host.new) }
-        ensures reads { ReadsNone self.old self.new (H.seen host.old) (H.seen host.new) }
+        ensures reads { ReadsNoCard self.old self.new (H.seen host.old) (H.seen host.new) }
     {
         match self.front {
             Some(_) => return Held::AtFront,
@@ -216,7 +216,7 @@ impl Hopper {
         ensures deck { LooksBehind self.old self.new (H.seen host.old) (H.seen host.new) result }
         ensures own { own_cards self.new ≡ own_cards self.old }
         ensures ahead { (front : Front) → self.old.front ≡ Some front
-            → IsOneAhead self.old (H.seen host.old).world
+            → IsHopperAhead self.old (H.seen host.old).world
             → IsAheadBehind self.new (H.seen host.new).world result }
         ensures same { HasSameRead self.old self.new }
     {

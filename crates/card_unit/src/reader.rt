@@ -3,10 +3,10 @@ ghost use Rattle.std.specs.Prelude.{◌≡◌, ◌<◌, ◌≤◌, ◌+◌, ◌-
 ghost use Rattle.addr_indirect.specs.declared.Stop.{Stop};
 ghost use Rattle.card_unit.specs.declared.reader.CardIo.TheVariants as io;
 ghost use Rattle.digit_core.specs.Size.{size};
-ghost use Rattle.card_unit.specs.CardCalls.{Reads, ReadsAsSaid, stored_ending, with_last, with_taken_up};
+ghost use Rattle.card_unit.specs.CardCalls.{ReadsCardBy, ReadsCardAsSaid, card_stored_ending, panel_after_card, with_taken_up};
 ghost use Rattle.card_code.specs.Feed.{station};
-ghost use Rattle.card_unit.specs.Hopper.{LeavesData, own_cards, ReadsOn, line_read};
-ghost use Rattle.card_unit.specs.Reader.{read_numeric, read_alphameric};
+ghost use Rattle.card_unit.specs.Hopper.{LeavesData, own_cards, GoesOnReadingCards, line_read};
+ghost use Rattle.card_unit.specs.Reader.{read_card_numeric, read_card_alphameric};
 ghost use Rattle.read_checks.specs.Readings.{bad_from};
 
 use crate::hopper::{CardAnswer, Hopper};
@@ -62,11 +62,11 @@ pub fn read_num<const M: u32, H: Host>(
     requires { p < size M }
     ensures reads { let before = station core.old panel.old hopper.old (H.seen host.old) in
         let after = station core.new panel.new hopper.new (H.seen host.new) in
-        Reads (read_numeric (size M) p) before after result }
+        ReadsCardBy (read_card_numeric (size M) p) before after result }
     ensures alone { LeavesData 2 hopper.old (H.seen host.old) (H.seen host.new) }
     ensures own { own_cards hopper.new ≡ own_cards hopper.old }
-    ensures reads_on { ReadsOn hopper.old hopper.new (H.seen host.old) (H.seen host.new) }
-    ensures as_said { ReadsAsSaid ReadAs.Digit (size M - p) hopper.old hopper.new (H.seen host.old) (H.seen host.new) result }
+    ensures reads_on { GoesOnReadingCards hopper.old hopper.new (H.seen host.old) (H.seen host.new) }
+    ensures as_said { ReadsCardAsSaid ReadAs.Digit (size M - p) hopper.old hopper.new (H.seen host.old) (H.seen host.new) result }
     ensures room { (why : Stop) → result ≡ io.Stop why → size M < p + 80 }
 {
     match hopper.next_card(host) {
@@ -104,11 +104,11 @@ pub fn read_alpha<const M: u32, H: Host>(
     requires odd { p % 2 ≡ 1 }
     ensures reads { let before = station core.old panel.old hopper.old (H.seen host.old) in
         let after = station core.new panel.new hopper.new (H.seen host.new) in
-        Reads (read_alphameric (size M) p) before after result }
+        ReadsCardBy (read_card_alphameric (size M) p) before after result }
     ensures alone { LeavesData 2 hopper.old (H.seen host.old) (H.seen host.new) }
     ensures own { own_cards hopper.new ≡ own_cards hopper.old }
-    ensures reads_on { ReadsOn hopper.old hopper.new (H.seen host.old) (H.seen host.new) }
-    ensures as_said { ReadsAsSaid ReadAs.Pair ((size M - (p - 1)) / 2) hopper.old hopper.new (H.seen host.old) (H.seen host.new) result }
+    ensures reads_on { GoesOnReadingCards hopper.old hopper.new (H.seen host.old) (H.seen host.new) }
+    ensures as_said { ReadsCardAsSaid ReadAs.Pair ((size M - (p - 1)) / 2) hopper.old hopper.new (H.seen host.old) (H.seen host.new) result }
 {
     match hopper.next_card(host) {
         CardAnswer::Card { card, last } => {
@@ -125,7 +125,7 @@ pub fn read_alpha<const M: u32, H: Host>(
 
 // Turns the last card indicator on where the card was the last.
 fn turn_on_last(panel: &mut Panel, last: bool)
-    ensures { panel.new ≡ with_last last panel.old }
+    ensures { panel.new ≡ panel_after_card last panel.old }
 {
     if last {
         panel.set(LAST_CARD, true);
@@ -147,7 +147,7 @@ fn stored_ending(
     requires good { IfOk stored (λ _. panel.now.read_check ≡ false
         → bad_from hopper.old.from (line_read hopper.old) how 1 (take room card.now) ≡ []) }
     ensures tallied { hopper.new ≡ with_taken_up how (take room card.now) hopper.old }
-    ensures answer { result ≡ stored_ending stored }
+    ensures answer { result ≡ card_stored_ending stored }
 {
     match stored {
         Ok(()) => {

@@ -9,7 +9,7 @@ use Rattle.clap.specs.Words.{Row as Found, Text, reading_of}
 use Rattle.clap.specs.declared.builder.value_parser.ValueParser.TheVariants as vp
 use Rattle.clap.specs.declared.parser.matches.ValueSource.TheVariants.{CommandLine}
 use Rattle.clap.proofs.WalkLemmas.{both}
-use Rattle.line_words.specs.Rows.{Row, value_by_name}
+use Rattle.line_words.specs.Rows.{NameRow, value_by_name}
 use Rattle.command_line.specs.declared.options.Slot.{Slot}
 use Rattle.command_line.specs.declared.words.Command.{Command}
 use Rattle.command_line.specs.Options.{same_slot, slot_word}
@@ -25,7 +25,7 @@ Each P [] = Unit {0}
 Each P (x ∷ xs) = P x × Each P xs
 
 -- and so of the row that a name finds
-pub at_row_of : {A : Type 0} (P : Row A → Type 0) (rows : List (Row A)) (name : Text) (v : A) → Each P rows → value_by_name rows name ≡ Some v → P (record { name = name; value = v })
+pub at_row_of : {A : Type 0} (P : NameRow A → Type 0) (rows : List (NameRow A)) (name : Text) (v : A) → Each P rows → value_by_name rows name ≡ Some v → P (record { name = name; value = v })
 unfolding value_by_name
 at_row_of P [] name v each e = absurd (cc)
 at_row_of {A} P (r ∷ rs) name v each e = go (bytes_eq name r.name) refl (at_row_of P rs name v each.1) e

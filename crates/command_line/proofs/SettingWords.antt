@@ -9,7 +9,7 @@ use Rattle.command_line.specs.declared.options.Slot.{Slot}
 use Rattle.command_line.specs.declared.words.Command.{Command}
 use Rattle.command_line.specs.Options.{same_slot}
 use Rattle.command_line.specs.Reading.{Values}
-use Rattle.command_line.specs.Words.{Setting, has_required, is_once, no_values, setting, settings, values_in_words, values_made, values_of, with_new, with_value}
+use Rattle.command_line.specs.Words.{Setting, has_required, is_once, no_values, setting, settings, values_in_words, values_made, values_of, with_one_setting, with_value}
 use Rattle.command_line.proofs.Slots.{slot_same, slots_swapped}
 
 -- ---- settings put into a map, one after another
@@ -125,7 +125,7 @@ words_make command words = go (settings command words)
 
 -- one option and its value
 first_two : (command : Command) (start : Values) (first : Option Setting) (rest : Option (List Setting)) → option_and_then (collected start) (option_and_then (λ s. option_map (λ more. s ∷ more) rest) first)
-    ≡ option_and_then (λ next. option_and_then (collected next) rest) (with_new start first)
+    ≡ option_and_then (λ next. option_and_then (collected next) rest) (with_one_setting start first)
 first_two command start None rest = refl
 first_two command start (Some s) None = go (is_some (start s.0))
   where
@@ -150,7 +150,7 @@ module _ (command : Command) (start : Values) (words : List (String Global)) (op
       ap₂ (λ (x y : String Global). string_bytes x ∷ string_bytes y ∷ map string_bytes rest) (sym o) (sym v)
       ∙ ap (λ (ws : List (String Global)). string_bytes option ∷ string_bytes value ∷ map string_bytes ws) (sym (take_all (length (a ∷ b ∷ rest) - 2) rest (omega arith)))
 
-  by_new : (made : Option Values) → with_new start (setting command (string_bytes option) (string_bytes value)) ≡ made
+  by_new : (made : Option Values) → with_one_setting start (setting command (string_bytes option) (string_bytes value)) ≡ made
       → words_collected command start (map string_bytes words) ≡ option_and_then (λ next. words_collected command next behind) made
   by_new made is =
       ap (words_collected command start) (words_are words two o v)
@@ -158,12 +158,12 @@ module _ (command : Command) (start : Values) (words : List (String Global)) (op
       ∙ ap (λ (made : Option Values). option_and_then (λ next. words_collected command next behind) made) is
 
   -- a setting that is new
-  pub set_once : (next : Values) → Some next ≡ with_new start (setting command (string_bytes option) (string_bytes value))
+  pub set_once : (next : Values) → Some next ≡ with_one_setting start (setting command (string_bytes option) (string_bytes value))
       → words_collected command start (map string_bytes words) ≡ words_collected command next behind
   set_once next is = by_new (Some next) (sym is)
 
   -- what is none, or is not new
-  pub refused_two : None ≡ with_new start (setting command (string_bytes option) (string_bytes value)) → words_collected command start (map string_bytes words) ≡ None
+  pub refused_two : None ≡ with_one_setting start (setting command (string_bytes option) (string_bytes value)) → words_collected command start (map string_bytes words) ≡ None
   refused_two is = by_new None (sym is)
 
 -- ---- the end

@@ -5,11 +5,11 @@ use Rattle.std.specs.Prelude.{Option, Some, find, unwrap_or, if◌then◌else◌
 use Rattle.std.specs.List.{list_all}
 use Rattle.std.specs.Str.{bytes_eq}
 use Rattle.clap.proofs.WalkLemmas.{both}
-use Rattle.line_words.specs.Rows.{Row}
+use Rattle.line_words.specs.Rows.{NameRow}
 use Rattle.outside_io.specs.declared.host.Unit as unit
 use Rattle.outside_io.specs.declared.host.Unit.TheVariants.{Source}
 use Rattle.outside_io.specs.World.{place}
-use Rattle.outside_io.proofs.Untold.{place_below}
+use Rattle.outside_io.proofs.UntoldHosts.{place_below}
 use Rattle.command_line.specs.declared.options.Slot.{Slot}
 use Rattle.command_line.specs.declared.options.Slot.TheVariants.{File}
 use Rattle.command_line.specs.declared.options.TheConstants.{SLOT_COUNT}
@@ -23,7 +23,7 @@ slot_below s = omega arith
 
 -- ---- all slots, those of one command after another
 
-abbrev slots_in : List (Row Command) → List Slot
+abbrev slots_in : List (NameRow Command) → List Slot
 slots_in [] = []
 slots_in (r ∷ rows) = slots r.value ++ slots_in rows
 

@@ -12,12 +12,12 @@ use Rattle.clap.proofs.WalkLemmas.{both, walk_stopped}
 use Rattle.clap.specs.declared.builder.action.ArgAction.TheVariants.{Set}
 use Rattle.clap.specs.declared.builder.value_parser.ValueParser.TheVariants as vp
 use Rattle.clap.specs.declared.parser.matches.ValueSource.TheVariants.{CommandLine}
-use Rattle.line_words.specs.Rows.{Row, value_by_name}
+use Rattle.line_words.specs.Rows.{NameRow, value_by_name}
 use Rattle.command_line.specs.declared.options.Slot.{Slot}
 use Rattle.command_line.specs.declared.words.Command.{Command}
 use Rattle.command_line.specs.declared.words.Command.TheVariants.{Assemble}
 use Rattle.command_line.specs.Options.{option_word, slot_word, slots}
-use Rattle.command_line.specs.Reading.{reading}
+use Rattle.command_line.specs.Reading.{reading_of_command}
 use Rattle.command_line.specs.Words.{Setting, commands, has_required, is_once, is_value, plain, settings, slot_of, values_in_words, values_made, values_of}
 use Rattle.command_line.specs.Matched.{meaning_found, program, program_for, values_found}
 use Rattle.command_line.proofs.Rows.{Each, all_new, at_found, at_row_of, first_of_settings, found_is, fresh, is_new, new_more, row_for, rows_for}
@@ -31,7 +31,7 @@ ready slot = record (new_rule (slot_word slot)) { long = Some (slot_word slot); 
 abbrev pub rules_for : Command → List Rule
 rules_for command = map ready (slots command)
 
-abbrev pub leaf_for : Row Command → Shape
+abbrev pub leaf_for : NameRow Command → Shape
 leaf_for r = record (new_shape r.name) { rules = rules_for r.value; no_binary_name = true; disable_help_flag = true; disable_help_subcommand = true; is_built = true }
 
 -- the program with such commands
@@ -223,7 +223,7 @@ leaf_rows command rest given taken =
 -- ---- the command
 
 -- a name leads to its command among these
-abbrev pub IsAmong : List Shape → Row Command → Type 0
+abbrev pub IsAmong : List Shape → NameRow Command → Type 0
 IsAmong subs r = (option_map (λ (s : Text × List Text). s.0) (find (answers_to r.name) (names_of (built_with subs))) ≡ Some r.name)
     × (find (λ (s : Shape). answers_to r.name (label_of s)) subs ≡ Some (leaf_for r))
 
@@ -231,7 +231,7 @@ commands_known : Each (IsAmong (map leaf_for commands)) commands
 commands_known = search rules
 
 -- the same of a command that clap is told of alone
-abbrev pub IsAlone : Row Command → Type 0
+abbrev pub IsAlone : NameRow Command → Type 0
 IsAlone r = (IsAmong (leaf_for r ∷ []) r) × (built (program_for r) ≡ built_with (leaf_for r ∷ [])) × (is_simple (program_for r) ≡ true)
 
 pub alone_known : Each IsAlone commands
@@ -276,12 +276,12 @@ pub record IsPlain (word : Text) (rest : List Text) : Type 0 where
   pub given : List Setting
   pub has : value_by_name commands word ≡ Some command
   pub taken : IsTaken command rest given []
-  pub means : plain (word ∷ rest) ≡ reading command (values_of given)
+  pub means : plain (word ∷ rest) ≡ reading_of_command command (values_of given)
 
 module _ (word : Text) (rest : List Text) where
   by_made : (command : Command) (given : List Setting) → value_by_name commands word ≡ Some command → settings command rest ≡ Some given
-      → (b : Bool) → (is_once given && has_required command (values_of given)) ≡ b → plain (word ∷ rest) ≡ option_and_then (reading command) (if b then Some (values_of given) else None)
-      → is_some (option_and_then (reading command) (if b then Some (values_of given) else None)) ≡ true → IsPlain word rest
+      → (b : Bool) → (is_once given && has_required command (values_of given)) ≡ b → plain (word ∷ rest) ≡ option_and_then (reading_of_command command) (if b then Some (values_of given) else None)
+      → is_some (option_and_then (reading_of_command command) (if b then Some (values_of given) else None)) ≡ true → IsPlain word rest
   by_made command given has reads true made is e = record {
     command = command;
     given = given;
@@ -292,13 +292,13 @@ module _ (word : Text) (rest : List Text) where
   by_made command given has reads false made is e = absurd (true≢false (sym e))
 
   by_settings : (command : Command) → value_by_name commands word ≡ Some command → (o : Option (List Setting)) → settings command rest ≡ o
-      → plain (word ∷ rest) ≡ option_and_then (reading command) (option_and_then (values_made command) o)
-      → is_some (option_and_then (reading command) (option_and_then (values_made command) o)) ≡ true → IsPlain word rest
+      → plain (word ∷ rest) ≡ option_and_then (reading_of_command command) (option_and_then (values_made command) o)
+      → is_some (option_and_then (reading_of_command command) (option_and_then (values_made command) o)) ≡ true → IsPlain word rest
   by_settings command has None reads is e = absurd (true≢false (sym e))
   by_settings command has (Some given) reads is e = by_made command given has reads (is_once given && has_required command (values_of given)) refl is e
 
-  by_command : (o : Option Command) → value_by_name commands word ≡ o → plain (word ∷ rest) ≡ option_and_then (λ command. option_and_then (reading command) (values_in_words command rest)) o
-      → is_some (option_and_then (λ command. option_and_then (reading command) (values_in_words command rest)) o) ≡ true → IsPlain word rest
+  by_command : (o : Option Command) → value_by_name commands word ≡ o → plain (word ∷ rest) ≡ option_and_then (λ command. option_and_then (reading_of_command command) (values_in_words command rest)) o
+      → is_some (option_and_then (λ command. option_and_then (reading_of_command command) (values_in_words command rest)) o) ≡ true → IsPlain word rest
   by_command None has is e = absurd (true≢false (sym e))
   by_command (Some command) has is e =
       by_settings command has (settings command rest) refl is e
@@ -312,6 +312,6 @@ plain_matched [] e = absurd (true≢false (sym e))
 plain_matched (word ∷ rest) e =
     let p = is_plain word rest e in
     ap meaning_found (found_in word p.command rest p.given p.has p.taken)
-    ∙ ap (λ (o : Option Command). option_and_then (λ command. reading command (values_found (rows_for p.given))) o) p.has
-    ∙ ap (reading p.command) (fun_ext (found_is p.given))
+    ∙ ap (λ (o : Option Command). option_and_then (λ command. reading_of_command command (values_found (rows_for p.given))) o) p.has
+    ∙ ap (reading_of_command p.command) (fun_ext (found_is p.given))
     ∙ sym p.means

@@ -16,7 +16,7 @@ abbrev pub names_in : Names → reading.Names
 names_in kept u = values_in kept.values (File u)
 
 -- what plain words mean
-abbrev pub meaning_of : Plain → reading.Said
+abbrev pub meaning_of : Plain → reading.WordsSaid
 meaning_of plain = record {
   command = plain.command;
   names = names_in plain.names;
@@ -29,5 +29,5 @@ abbrev pub KeepsJust : Option reading.Values → Option Values → Type 0
 KeepsJust values kept = option_map values_in kept ≡ values
 
 -- the code means just this, or nothing
-abbrev pub MeansJust : Option reading.Said → Option Plain → Type 0
+abbrev pub MeansJust : Option reading.WordsSaid → Option Plain → Type 0
 MeansJust meaning plain = option_map meaning_of plain ≡ meaning

@@ -4,11 +4,11 @@ use Rattle.clap.specs.Words.{App, Row as Found, Rule, Shape, Text, app_of, first
 use Rattle.clap.specs.declared.builder.command.Command as clap
 use Rattle.clap.specs.declared.builder.command.Command.TheViews.{out-Command}
 use Rattle.clap.specs.declared.builder.action.ArgAction.TheVariants.{Set}
-use Rattle.line_words.specs.Rows.{Row, value_by_name}
+use Rattle.line_words.specs.Rows.{NameRow, value_by_name}
 use Rattle.command_line.specs.declared.options.Slot.{Slot}
 use Rattle.command_line.specs.declared.words.Command.{Command}
 use Rattle.command_line.specs.Options.{slot_word, slots}
-use Rattle.command_line.specs.Reading.{Said, Values, reading}
+use Rattle.command_line.specs.Reading.{WordsSaid, Values, reading_of_command}
 use Rattle.command_line.specs.Words.{commands, with_value}
 
 -- an option with this word behind its hyphens takes one value, and is read back by the word
@@ -29,11 +29,11 @@ with_options app [] = app
 with_options app (slot ∷ rest) = with_options (with_rule app (rule_for (slot_word slot))) rest
 
 -- a command with its options
-abbrev pub subcommand_for : Row Command → App
+abbrev pub subcommand_for : NameRow Command → App
 subcommand_for r = with_options (new_app r.name) (slots r.value)
 
 -- the commands of a table, one after another
-abbrev pub with_subcommands : App → List (Row Command) → App
+abbrev pub with_subcommands : App → List (NameRow Command) → App
 with_subcommands app [] = app
 with_subcommands app (r ∷ rows) = with_subcommands (with_subcommand app (subcommand_for r).top) rows
 
@@ -54,7 +54,7 @@ abbrev pub program : App
 program = with_subcommands top commands
 
 -- the program with this command alone
-abbrev pub program_for : Row Command → App
+abbrev pub program_for : NameRow Command → App
 program_for r = with_subcommand top (subcommand_for r).top
 
 -- the first value that was found for each slot
@@ -67,6 +67,6 @@ with_found slot None values = values
 with_found slot (Some text) values = with_value slot text values
 
 -- what the command means that was found, with its options
-abbrev pub meaning_found : Option (Text × List Found) → Option Said
+abbrev pub meaning_found : Option (Text × List Found) → Option WordsSaid
 meaning_found None = None
-meaning_found (Some p) = option_and_then (λ command. reading command (values_found p.1)) (value_by_name commands p.0)
+meaning_found (Some p) = option_and_then (λ command. reading_of_command command (values_found p.1)) (value_by_name commands p.0)

@@ -13,5 +13,5 @@ abbrev pub AreNumbers : ℕ → ℕ → Type 0
 AreNumbers statements number = AreStatements statements × IsNumber number
 
 -- a number from the least to the most
-abbrev pub IsWithin : ℕ → ℕ → ℕ → Type 0
-IsWithin least most n = (least ≤ n) × (n ≤ most)
+abbrev pub IsNumberWithin : ℕ → ℕ → ℕ → Type 0
+IsNumberWithin least most n = (least ≤ n) × (n ≤ most)

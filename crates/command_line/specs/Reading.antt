@@ -2,7 +2,7 @@
 use Rattle.std.specs.Prelude.{ℕ, List, [], ◌∷◌, Option, Some, None, option_and_then}
 use Rattle.outside_io.specs.declared.host.Unit as unit
 use Rattle.line_words.specs.Words.{largest_number, number_in}
-use Rattle.line_words.specs.Rows.{Row, row, value_by_name}
+use Rattle.line_words.specs.Rows.{NameRow, row, value_by_name}
 use Rattle.command_line.specs.declared.options.Slot.{Slot}
 use Rattle.command_line.specs.declared.options.Slot.TheVariants.{File, Limit, Statements, Number, Form, Core}
 use Rattle.command_line.specs.declared.reading.Settings.{Settings}
@@ -24,7 +24,7 @@ abbrev pub no_names : Names
 no_names u = None
 
 -- what plain words say: a command, the names of the files, the settings of the job, and the size of core
-pub record Said : Type 0 where
+pub record WordsSaid : Type 0 where
   pub command : Command
   pub names : Names
   pub settings : Settings
@@ -46,11 +46,11 @@ abbrev pub last_source : ℕ
 last_source = 999999
 
 -- THE TABLE of forms of an object deck
-abbrev pub deck_forms : List (Row DeckForm)
+abbrev pub deck_forms : List (NameRow DeckForm)
 deck_forms = row "self" SelfLoading ∷ row "dense" Dense ∷ []
 
 -- THE TABLE of sizes of core
-abbrev pub core_sizes : List (Row CoreSize)
+abbrev pub core_sizes : List (NameRow CoreSize)
 core_sizes = row "20000" OneModule ∷ row "40000" TwoModules ∷ row "60000" ThreeModules ∷ []
 
 -- what a text is read as, and the standard where there is none
@@ -93,8 +93,8 @@ settings_in values =
     })))))
 
 -- what a command with these values says, where each of them can be read
-abbrev pub reading : Command → Values → Option Said
-reading command values =
+abbrev pub reading_of_command : Command → Values → Option WordsSaid
+reading_of_command command values =
     with (settings_in values) (λ settings.
     with (core_in values) (λ core.
     Some (record {

@@ -3,16 +3,16 @@ use Rattle.std.specs.Prelude.{ℕ, Bool, true, false, not, ◌&&◌, List, [], �
 use Rattle.std.specs.List.{list_all}
 use Rattle.std.specs.Str.{bytes_eq}
 use Rattle.std.specs.declared.alloc.Global.{Global}
-use Rattle.line_words.specs.Rows.{Row, row, value_by_name}
+use Rattle.line_words.specs.Rows.{NameRow, row, value_by_name}
 use Rattle.command_line.specs.declared.options.Slot.{Slot}
 use Rattle.command_line.specs.declared.words.Command.{Command}
 use Rattle.command_line.specs.declared.words.Command.TheVariants.{Assemble, Load, Run, Debug, Generate, Trial, Disk}
 use Rattle.command_line.specs.Options.{option_word, required, same_slot, slots}
-use Rattle.command_line.specs.Reading.{Values, reading}
-pub use Rattle.command_line.specs.Reading.{Names, Said, no_names}
+use Rattle.command_line.specs.Reading.{Values, reading_of_command}
+pub use Rattle.command_line.specs.Reading.{Names, WordsSaid, no_names}
 
 -- THE TABLE of commands
-abbrev pub commands : List (Row Command)
+abbrev pub commands : List (NameRow Command)
 commands =
     row "assemble" Assemble
     ∷ row "load" Load
@@ -70,9 +70,9 @@ is_once [] = true
 is_once (s ∷ more) = not (is_some (values_of more s.0)) && is_once more
 
 -- a map with a setting whose slot has no text yet
-abbrev pub with_new : Values → Option Setting → Option Values
-with_new values None = None
-with_new values (Some s) = if is_some (values s.0) then None else Some (with_value s.0 s.1 values)
+abbrev pub with_one_setting : Values → Option Setting → Option Values
+with_one_setting values None = None
+with_one_setting values (Some s) = if is_some (values s.0) then None else Some (with_value s.0 s.1 values)
 
 -- the required ones are there
 abbrev pub has_required : Command → Values → Bool
@@ -90,16 +90,16 @@ values_in_words command words = option_and_then (values_made command) (settings 
 -- ---- plain words
 
 -- a command, and then options with their values, which can be read
-abbrev pub plain : List (List ℕ) → Option Said
+abbrev pub plain : List (List ℕ) → Option WordsSaid
 plain [] = None
 plain (word ∷ rest) =
-    option_and_then (λ command. option_and_then (reading command) (values_in_words command rest)) (value_by_name commands word)
+    option_and_then (λ command. option_and_then (reading_of_command command) (values_in_words command rest)) (value_by_name commands word)
 
 -- what the words of a command line mean, where they are plain
-abbrev pub meaning_of_words : List (String Global) → Option Said
+abbrev pub meaning_of_words : List (String Global) → Option WordsSaid
 meaning_of_words words = plain (map string_bytes words)
 
 -- the names that words give; there are none where they are not plain
-abbrev pub names_of : Option Said → Names
+abbrev pub names_of : Option WordsSaid → Names
 names_of None = no_names
 names_of (Some said) = said.names

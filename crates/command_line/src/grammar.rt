@@ -1,7 +1,7 @@
 // The grammar of the words behind a command: options, each with its value behind it.
 ghost use Rattle.std.specs.Prelude.{◌≡◌, map, string_bytes};
 ghost use Rattle.command_line.specs.Given.{values_in, KeepsJust};
-ghost use Rattle.command_line.specs.Words.{has_required, is_value, setting, values_in_words, with_new};
+ghost use Rattle.command_line.specs.Words.{has_required, is_value, setting, values_in_words, with_one_setting};
 
 use crate::options::{required, slot_of};
 use crate::values::Values;
@@ -24,7 +24,7 @@ fn with_setting<'a>(
     option: &str,
     value: &'a str,
 ) -> Option<Values<'a>>
-    ensures { KeepsJust (with_new (values_in values.entry) (setting command option.now value.now))
+    ensures { KeepsJust (with_one_setting (values_in values.entry) (setting command option.now value.now))
         result }
 {
     if !is_value(value) {

@@ -3,8 +3,8 @@ ghost use Rattle.std.specs.Prelude.{◌≡◌, ◌≤◌, IfSome, option_copied}
 ghost use Rattle.line_words.specs.Words.{number_in};
 ghost use Rattle.line_words.specs.Rows.{value_by_name};
 ghost use Rattle.command_line.specs.Given.{values_in, MeansJust};
-ghost use Rattle.command_line.specs.Numbers.{AreNumbers, IsWithin};
-ghost use Rattle.command_line.specs.Reading.{core_in, core_sizes, deck_forms, form_in, read_or, reading, settings_in};
+ghost use Rattle.command_line.specs.Numbers.{AreNumbers, IsNumberWithin};
+ghost use Rattle.command_line.specs.Reading.{core_in, core_sizes, deck_forms, form_in, read_or, reading_of_command, settings_in};
 
 use crate::given::Plain;
 use crate::names::Names;
@@ -47,10 +47,10 @@ const MOST_MADE: u64 = 1_600;
 const LAST_SOURCE: u64 = 999_999;
 
 // A number from the least to the most; the standard one where there is no text.
-fn number_or(least: u64, most: u64, standard: u64, text: Option<&str>) -> Option<u64>
-    requires { IsWithin least most standard }
+fn read_or(least: u64, most: u64, standard: u64, text: Option<&str>) -> Option<u64>
+    requires { IsNumberWithin least most standard }
     ensures is { result ≡ read_or (number_in least most) standard (option_copied text.entry) }
-    ensures within { IfSome result (IsWithin least most) }
+    ensures within { IfSome result (IsNumberWithin least most) }
 {
     match text {
         None => Some(standard),
@@ -83,14 +83,14 @@ fn settings_in(values: &Values<'_>) -> Option<Settings>
     ensures is { result ≡ settings_in (values_in values.now) }
     ensures fits { IfSome result (λ settings. AreNumbers settings.statements settings.number) }
 {
-    let limit = number_or(0, LARGEST_NUMBER, STANDARD_LIMIT, values.get(Slot::Limit))?;
-    let statements = number_or(
+    let limit = read_or(0, LARGEST_NUMBER, STANDARD_LIMIT, values.get(Slot::Limit))?;
+    let statements = read_or(
         FEWEST_MADE,
         MOST_MADE,
         FEWEST_MADE,
         values.get(Slot::Statements),
     )?;
-    let number = number_or(0, LAST_SOURCE, 0, values.get(Slot::Number))?;
+    let number = read_or(0, LAST_SOURCE, 0, values.get(Slot::Number))?;
     let form = form_in(values)?;
     Some(Settings {
         limit,
@@ -102,7 +102,7 @@ fn settings_in(values: &Values<'_>) -> Option<Settings>
 
 // What a command with these values says, where each of them can be read.
 pub(crate) fn read<'a>(command: Command, values: &Values<'a>) -> Option<Plain<'a>>
-    ensures { MeansJust (reading command (values_in values.now)) result }
+    ensures { MeansJust (reading_of_command command (values_in values.now)) result }
 {
     let settings = settings_in(values)?;
     let core = core_in(values)?;

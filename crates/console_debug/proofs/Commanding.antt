@@ -10,27 +10,27 @@ use Rattle.sps_pass_two.specs.Assembled.{PlacedText}
 use Rattle.console_debug.specs.declared.commands.DebugCommand.{DebugCommand}
 use Rattle.console_debug.specs.declared.commands.DebugCommand.TheVariants as command
 use Rattle.console_debug.specs.Lines.{no_statement_line, show_line}
-use Rattle.console_debug.specs.Places.{is_instruction}
+use Rattle.console_debug.specs.Places.{is_instruction_at}
 use Rattle.console_debug.specs.Session.{Course, Session, says, go, steps, back, set_break, clear_break, with_break, without_break, session_after}
 use Rattle.console_debug.specs.CursorStates.{CursorState, IsFit}
-use Rattle.console_debug.specs.Carries.{DebuggerState, debugger_state, Does, Carries, marks, SetsIf, Sets}
+use Rattle.console_debug.specs.Carries.{DebuggerState, debugger_state, Does, CarriesPart, marks, SetsIf, Sets}
 use Rattle.console_debug.proofs.DebuggerStates.{attends_same, begins, all_done, core_here, said, carried_same}
 
 module _ (m limit : ℕ) (placed : List PlacedText) where
   -- said of a command that is this one
-  of_command : (what given : DebugCommand) (a b : DebuggerState m) (how : Sent) → what ≡ given → Carries m limit placed (session_after given) a b how → Carries m limit placed (session_after what) a b how
-  of_command what given a b how is carries = subst (λ (x : DebugCommand). Carries m limit placed (session_after x) a b how) (sym is) carries
+  of_command : (what given : DebugCommand) (a b : DebuggerState m) (how : Sent) → what ≡ given → CarriesPart m limit placed (session_after given) a b how → CarriesPart m limit placed (session_after what) a b how
+  of_command what given a b how is carries = subst (λ (x : DebugCommand). CarriesPart m limit placed (session_after x) a b how) (sym is) carries
 
   -- those that move along the run
-  pub go_carried : (what : DebugCommand) (a b : DebuggerState m) (how : Sent) → what ≡ command.Go → Carries m limit placed go a b how → Carries m limit placed (session_after what) a b how
+  pub go_carried : (what : DebugCommand) (a b : DebuggerState m) (how : Sent) → what ≡ command.Go → CarriesPart m limit placed go a b how → CarriesPart m limit placed (session_after what) a b how
   unfolding session_after
   go_carried what a b how is carries = of_command what command.Go a b how is carries
 
-  pub step_carried : (what : DebugCommand) (n : ℕ) (a b : DebuggerState m) (how : Sent) → what ≡ command.Step n → Carries m limit placed (steps n) a b how → Carries m limit placed (session_after what) a b how
+  pub step_carried : (what : DebugCommand) (n : ℕ) (a b : DebuggerState m) (how : Sent) → what ≡ command.Step n → CarriesPart m limit placed (steps n) a b how → CarriesPart m limit placed (session_after what) a b how
   unfolding session_after
   step_carried what n a b how is carries = of_command what (command.Step n) a b how is carries
 
-  pub back_carried : (what : DebugCommand) (n : ℕ) (a b : DebuggerState m) (how : Sent) → what ≡ command.Back n → Carries m limit placed (back n) a b how → Carries m limit placed (session_after what) a b how
+  pub back_carried : (what : DebugCommand) (n : ℕ) (a b : DebuggerState m) (how : Sent) → what ≡ command.Back n → CarriesPart m limit placed (back n) a b how → CarriesPart m limit placed (session_after what) a b how
   unfolding session_after
   back_carried what n a b how is carries = of_command what (command.Back n) a b how is carries
 
@@ -45,7 +45,7 @@ module _ (m limit : ℕ) (placed : List PlacedText) where
 
     -- SHOW
     pub show_carried : (what : DebugCommand) (set : List ℕ) (at count : ℕ) → what ≡ command.Show at count → Sends x.seen after units.Report (show_line x.at.machine.core at count) how
-        → Carries m limit placed (session_after what) (debugger_state m x set) (debugger_state m later set) how
+        → CarriesPart m limit placed (session_after what) (debugger_state m x set) (debugger_state m later set) how
     unfolding session_after
     show_carried what set at count is sends = of_command what (command.Show at count) (debugger_state m x set) (debugger_state m later set) how is
         (said m limit placed x set after (session_after (command.Show at count)) (show_line x.at.machine.core at count) how fit
@@ -64,39 +64,39 @@ module _ (m limit : ℕ) (placed : List PlacedText) where
     }
 
     set_carried : (b : Bool) (n : ℕ) (old new : List ℕ) (change : List ℕ → List ℕ) → SetsIf b n change (marks old x.seen) (marks new after) how
-        → Carries m limit placed (sets_or_says b n change) (debugger_state m x old) (debugger_state m later new) how
+        → CarriesPart m limit placed (sets_or_says b n change) (debugger_state m x old) (debugger_state m later new) how
     set_carried true n old new change sets = rw (sets.0, sets.1, sets.2) (set_does n old change)
     set_carried false n old new change sets = rw sets.0
         (said m limit placed x old after (sets_or_says false n change) (no_statement_line n) how fit (λ c over start s stands. refl) sets.1)
 
-    sets_over : (f : Course → Session → Session) (n : ℕ) (change : List ℕ → List ℕ) (a b : DebuggerState m) → ((c : Course) → c.placed ≡ placed → (s : Session) → f c s ≡ sets_or_says (is_instruction placed n) n change c s)
-        → Carries m limit placed (sets_or_says (is_instruction placed n) n change) a b how → Carries m limit placed f a b how
-    sets_over f n change a b same carries = carried_same m limit placed f (sets_or_says (is_instruction placed n) n change) a b how (λ c over s. same c over.placed_is s) carries
+    sets_over : (f : Course → Session → Session) (n : ℕ) (change : List ℕ → List ℕ) (a b : DebuggerState m) → ((c : Course) → c.placed ≡ placed → (s : Session) → f c s ≡ sets_or_says (is_instruction_at placed n) n change c s)
+        → CarriesPart m limit placed (sets_or_says (is_instruction_at placed n) n change) a b how → CarriesPart m limit placed f a b how
+    sets_over f n change a b same carries = carried_same m limit placed f (sets_or_says (is_instruction_at placed n) n change) a b how (λ c over s. same c over.placed_is s) carries
 
     -- BREAK and CLEAR
     pub break_carried : (what : DebugCommand) (n : ℕ) (old new : List ℕ) → what ≡ command.Break n → Sets placed n (with_break n) (marks old x.seen) (marks new after) how
-        → Carries m limit placed (session_after what) (debugger_state m x old) (debugger_state m later new) how
+        → CarriesPart m limit placed (session_after what) (debugger_state m x old) (debugger_state m later new) how
     unfolding session_after
     break_carried what n old new is sets = of_command what (command.Break n) (debugger_state m x old) (debugger_state m later new) how is
         (sets_over (λ c s. set_break c.placed n s) n (with_break n) (debugger_state m x old) (debugger_state m later new) (λ c is s. ap (λ (p : List PlacedText). set_break p n s) is)
-        (set_carried (is_instruction placed n) n old new (with_break n) sets))
+        (set_carried (is_instruction_at placed n) n old new (with_break n) sets))
 
     pub clear_carried : (what : DebugCommand) (n : ℕ) (old new : List ℕ) → what ≡ command.Clear n → Sets placed n (without_break n) (marks old x.seen) (marks new after) how
-        → Carries m limit placed (session_after what) (debugger_state m x old) (debugger_state m later new) how
+        → CarriesPart m limit placed (session_after what) (debugger_state m x old) (debugger_state m later new) how
     unfolding session_after
     clear_carried what n old new is sets = of_command what (command.Clear n) (debugger_state m x old) (debugger_state m later new) how is
         (sets_over (λ c s. clear_break c.placed n s) n (without_break n) (debugger_state m x old) (debugger_state m later new) (λ c is s. ap (λ (p : List PlacedText). clear_break p n s) is)
-        (set_carried (is_instruction placed n) n old new (without_break n) sets))
+        (set_carried (is_instruction_at placed n) n old new (without_break n) sets))
 
 -- by whether the statement is an instruction
-pub none_set : (placed : List PlacedText) (n : ℕ) (change : List ℕ → List ℕ) (old : List ℕ) (before after : Seen) (how : Sent) → is_instruction placed n ≡ false → Sends before after units.Report (no_statement_line n) how
+pub none_set : (placed : List PlacedText) (n : ℕ) (change : List ℕ → List ℕ) (old : List ℕ) (before after : Seen) (how : Sent) → is_instruction_at placed n ≡ false → Sends before after units.Report (no_statement_line n) how
     → Sets placed n change (marks old before) (marks old after) how
 none_set placed n change old before after how none sends = subst (λ (b : Bool). SetsIf b n change (marks old before) (marks old after) how) (sym none) (refl, sends)
 
-pub all_set : (placed : List PlacedText) (n : ℕ) (change : List ℕ → List ℕ) (old new : List ℕ) (before : Seen) → is_instruction placed n ≡ true → new ≡ change old → Sets placed n change (marks old before) (marks new before) sent.Done
+pub all_set : (placed : List PlacedText) (n : ℕ) (change : List ℕ → List ℕ) (old new : List ℕ) (before : Seen) → is_instruction_at placed n ≡ true → new ≡ change old → Sets placed n change (marks old before) (marks new before) sent.Done
 all_set placed n change old new before some same = subst (λ (b : Bool). SetsIf b n change (marks old before) (marks new before) sent.Done) (sym some) (same, refl, refl)
 
 -- none of them changed where the statement is no instruction
-pub same_set : (placed : List PlacedText) (n : ℕ) (change : List ℕ → List ℕ) (old new : List ℕ) (before after : Seen) (how : Sent) → is_instruction placed n ≡ false → new ≡ old → Sends before after units.Report (no_statement_line n) how
+pub same_set : (placed : List PlacedText) (n : ℕ) (change : List ℕ → List ℕ) (old new : List ℕ) (before after : Seen) (how : Sent) → is_instruction_at placed n ≡ false → new ≡ old → Sends before after units.Report (no_statement_line n) how
     → Sets placed n change (marks old before) (marks new after) how
 same_set placed n change old new before after how none same sends = subst (λ (set : List ℕ). Sets placed n change (marks old before) (marks set after) how) (sym same) (none_set placed n change old before after how none sends)

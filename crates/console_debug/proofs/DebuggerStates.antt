@@ -19,7 +19,7 @@ use Rattle.cpu_step.specs.declared.machine.Machine.{Machine}
 use Rattle.cpu_step.specs.State.{State}
 use Rattle.cpu_step.specs.Machine.{Frames, is_read, is_written, state_with, over_all}
 use Rattle.cpu_step.proofs.Readers.{hopper_same}
-use Rattle.cpu_step.proofs.Exact.{state_is}
+use Rattle.cpu_step.proofs.ExactCards.{state_is}
 use Rattle.cpu_step.proofs.Texts.{texts_other}
 use Rattle.cpu_step.proofs.InputsTaken.{HasTaken, taken_on}
 use Rattle.operator_script.specs.Turn.{RunPlace, IsCutTurn}
@@ -29,7 +29,7 @@ use Rattle.sps_pass_two.specs.Assembled.{PlacedText}
 use Rattle.console_debug.specs.Session.{Course, Act, Line, Turn, Session, nth_place, place_as_seen, says, goes_to, turns_from, session_events}
 use Rattle.console_debug.specs.CursorStates.{CursorState, IsOn, IsFit, IsLed}
 use Rattle.console_debug.specs.Debugs.{Attends, is_said}
-use Rattle.console_debug.specs.Carries.{DebuggerState, debugger_state, StandsIn, StopsIn, IsOver, Does, Fails, Carries, Underway}
+use Rattle.console_debug.specs.Carries.{DebuggerState, debugger_state, StandsIn, StopsIn, IsCourseOver, Does, FailsInPart, CarriesPart, PartsUnderway}
 use Rattle.console_debug.proofs.Stepping.{count_told}
 use Rattle.console_debug.proofs.Acts.{turns_append, turns_line, turns_of, turns_take, text_takes, did_turns, did_cut, acts_on, act_on, part_on, acts_take, act_takes, part_takes}
 use Rattle.console_debug.proofs.Onward.{Onward, MakesTurns, next_turn}
@@ -131,8 +131,8 @@ module _ (m limit : ℕ) (placed : List PlacedText) (x : CursorState m) (set : L
 
   -- a session that says a line, and a host that takes it, or fails
   pub said : (f : Course → Session → Session) (line : List ℕ) (how : Sent) → IsFit m limit x
-      → ((c : Course) → IsOver limit placed c → (start : World) (s : Session) → StandsIn m c here start s → f c s ≡ says line s)
-      → Sends x.seen after units.Report line how → Carries m limit placed f here after_line how
+      → ((c : Course) → IsCourseOver limit placed c → (start : World) (s : Session) → StandsIn m c here start s → f c s ≡ says line s)
+      → Sends x.seen after units.Report line how → CarriesPart m limit placed f here after_line how
   said f line sent.Done fit same goes = record {
     told = λ c over start s stands.
         let furthest = (nth_place c s.furthest).state in
@@ -200,7 +200,7 @@ pub record IsBroken (m : ℕ) (c : Course) (f : Course → Session → Session) 
 
 module _ (m limit : ℕ) (placed : List PlacedText) where
   -- in the turn from a place on
-  pub broken_at : (f : Course → Session → Session) (x : CursorState m) (c : Course) → IsOver limit placed c → (s : Session) (n : ℕ) → s.furthest ≤ s.at + n
+  pub broken_at : (f : Course → Session → Session) (x : CursorState m) (c : Course) → IsCourseOver limit placed c → (s : Session) (n : ℕ) → s.furthest ≤ s.at + n
       → (q : RunPlace) × (place_of m x.at x.seen.world ≡ Some q) × IsCutTurn limit (nth_place c (s.at + n)) q
       → MakesTurns s (suc (s.at + n - s.furthest)) (f c s) → IsBroken m c f s x
   broken_at f x c over s n far cut makes =
@@ -214,14 +214,14 @@ module _ (m limit : ℕ) (placed : List PlacedText) where
             (subst (λ i. IsCutTurn limit (nth_place c i) cut.0) from cut.2);
       }
 
-  pub begins : (f g : Course → Session → Session) (x : DebuggerState m) → ((c : Course) (s : Session) → f c s ≡ g c s) → IsFit m limit x.cursor_state → Underway m limit placed f g x x
+  pub begins : (f g : Course → Session → Session) (x : DebuggerState m) → ((c : Course) (s : Session) → f c s ≡ g c s) → IsFit m limit x.cursor_state → PartsUnderway m limit placed f g x x
   begins f g x same fit = record {
     told = λ c over start s stands. (s, stands, same c s);
     fit = fit;
     frames = attends_same m x.cursor_state.at.machine x.cursor_state.seen;
   }
 
-  pub goes_on : (f g h : Course → Session → Session) (a b d : DebuggerState m) → Underway m limit placed f g a b → Underway m limit placed g h b d → Underway m limit placed f h a d
+  pub goes_on : (f g h : Course → Session → Session) (a b d : DebuggerState m) → PartsUnderway m limit placed f g a b → PartsUnderway m limit placed g h b d → PartsUnderway m limit placed f h a d
   goes_on f g h a b d first second = record {
     told = λ c over start s stands.
         let one = first.told c over start s stands in
@@ -232,7 +232,7 @@ module _ (m limit : ℕ) (placed : List PlacedText) where
   }
 
   -- a whole part is done, and another is left
-  pub does_first : (f g h : Course → Session → Session) (a b : DebuggerState m) → ((c : Course) (s : Session) → f c s ≡ g c (h c s)) → Does m limit placed h a b → Underway m limit placed f g a b
+  pub does_first : (f g h : Course → Session → Session) (a b : DebuggerState m) → ((c : Course) (s : Session) → f c s ≡ g c (h c s)) → Does m limit placed h a b → PartsUnderway m limit placed f g a b
   does_first f g h a b same does = record {
     told = λ c over start s stands. (h c s, does.told c over start s stands, same c s);
     fit = does.fit;
@@ -240,7 +240,7 @@ module _ (m limit : ℕ) (placed : List PlacedText) where
   }
 
   -- what is left is done, or broken off, and so is the whole
-  pub ends_with : (f g : Course → Session → Session) (a b d : DebuggerState m) (how : Sent) → Underway m limit placed f g a b → Carries m limit placed g b d how → Carries m limit placed f a d how
+  pub ends_with : (f g : Course → Session → Session) (a b d : DebuggerState m) (how : Sent) → PartsUnderway m limit placed f g a b → CarriesPart m limit placed g b d how → CarriesPart m limit placed f a d how
   ends_with f g a b d sent.Done under does = record {
     told = λ c over start s stands.
         let left = under.told c over start s stands in
@@ -257,7 +257,7 @@ module _ (m limit : ℕ) (placed : List PlacedText) where
   }
 
   -- a function that gives the same over each of these courses
-  pub carried_same : (f g : Course → Session → Session) (a b : DebuggerState m) (how : Sent) → ((c : Course) → IsOver limit placed c → (s : Session) → f c s ≡ g c s) → Carries m limit placed g a b how → Carries m limit placed f a b how
+  pub carried_same : (f g : Course → Session → Session) (a b : DebuggerState m) (how : Sent) → ((c : Course) → IsCourseOver limit placed c → (s : Session) → f c s ≡ g c s) → CarriesPart m limit placed g a b how → CarriesPart m limit placed f a b how
   carried_same f g a b sent.Done same does = record {
     told = λ c over start s stands. subst (StandsIn m c b start) (sym (same c over s)) (does.told c over start s stands);
     fit = does.fit;
@@ -270,7 +270,7 @@ module _ (m limit : ℕ) (placed : List PlacedText) where
   }
 
   -- nothing is left
-  pub all_done : (f : Course → Session → Session) (a b : DebuggerState m) → Underway m limit placed f (λ c s. s) a b → Does m limit placed f a b
+  pub all_done : (f : Course → Session → Session) (a b : DebuggerState m) → PartsUnderway m limit placed f (λ c s. s) a b → Does m limit placed f a b
   all_done f a b under = record {
     told = λ c over start s stands.
         let left = under.told c over start s stands in
@@ -281,8 +281,8 @@ module _ (m limit : ℕ) (placed : List PlacedText) where
 
   -- a move over the places, behind which the second function is left
   pub moved : (f g : Course → Session → Session) (old new : CursorState m) (set : List ℕ) → Frames m old.at.machine new.at.machine old.seen new.seen → IsFit m limit new
-      → ((c : Course) → IsOver limit placed c → (s : Session) → set ≡ s.breaks → IsOn m c s.at s.furthest old → (turns : ℕ) × IsLed m c s.at s.furthest turns new × (f c s ≡ g c (goes_to (s.at + turns) s)))
-      → Underway m limit placed f g (debugger_state m old set) (debugger_state m new set)
+      → ((c : Course) → IsCourseOver limit placed c → (s : Session) → set ≡ s.breaks → IsOn m c s.at s.furthest old → (turns : ℕ) × IsLed m c s.at s.furthest turns new × (f c s ≡ g c (goes_to (s.at + turns) s)))
+      → PartsUnderway m limit placed f g (debugger_state m old set) (debugger_state m new set)
   moved f g old new set frames fit leads = record {
     told = λ c over start s stands.
         let led = leads c over s stands.breaks_are stands.on_it in
@@ -311,8 +311,8 @@ module _ (m limit : ℕ) (placed : List PlacedText) where
 
   -- the host failed in such a move
   pub broke : (f : Course → Session → Session) (old new : CursorState m) (set : List ℕ) → Frames m old.at.machine new.at.machine old.seen new.seen → Rose old.seen.faults new.seen.faults
-      → ((c : Course) → IsOver limit placed c → (s : Session) → set ≡ s.breaks → IsOn m c s.at s.furthest old → IsBroken m c f s new)
-      → Fails m limit placed f (debugger_state m old set) (debugger_state m new set)
+      → ((c : Course) → IsCourseOver limit placed c → (s : Session) → set ≡ s.breaks → IsOn m c s.at s.furthest old → IsBroken m c f s new)
+      → FailsInPart m limit placed f (debugger_state m old set) (debugger_state m new set)
   broke f old new set frames rose breaks_off = record {
     told = λ c over start s stands.
         let at = breaks_off c over s stands.breaks_are stands.on_it in
@@ -356,7 +356,7 @@ stops_before m c x start s t on stops = record {
 
 -- what breaks off the first of two parts breaks off both
 pub fails_first : (m limit : ℕ) (placed : List PlacedText) (f g h : Course → Session → Session) (a b : DebuggerState m) → ((c : Course) (s : Session) → f c s ≡ g c (h c s)) → ((c : Course) (s : Session) → Onward s (g c s))
-    → Fails m limit placed h a b → Fails m limit placed f a b
+    → FailsInPart m limit placed h a b → FailsInPart m limit placed f a b
 fails_first m limit placed f g h a b same onward fails = record {
   told = λ c over start s stands. subst (StopsIn m c b start) (sym (same c s)) (stops_before m c b start (h c s) (g c (h c s)) (onward c (h c s)) (fails.told c over start s stands));
   rose = fails.rose;

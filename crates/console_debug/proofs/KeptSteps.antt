@@ -14,7 +14,7 @@ use Rattle.console_debug.specs.Lines.{at_line}
 use Rattle.console_debug.specs.Places.{turns_to_step}
 use Rattle.console_debug.specs.Session.{nth_place, places_ahead, goes_to, steps}
 use Rattle.console_debug.specs.CursorStates.{CursorState, IsOn, IsFit, MovesOn, IsThere, ToAStep}
-use Rattle.console_debug.specs.Carries.{DebuggerState, debugger_state, Fails, Underway}
+use Rattle.console_debug.specs.Carries.{DebuggerState, debugger_state, FailsInPart, PartsUnderway}
 use Rattle.console_debug.proofs.Courses.{led_by}
 use Rattle.console_debug.proofs.DebuggerStates.{begins, goes_on, moved}
 use Rattle.console_debug.proofs.Passing.{sets_out, within_limit}
@@ -28,7 +28,7 @@ use Rattle.console_debug.proofs.Stepping.{if_some}
 
 -- a move that was no step leaves all steps to be made
 acts_over : (m limit : ℕ) (placed : List PlacedText) (set : List ℕ) (n : ℕ) (x new : CursorState m) → IsFit m limit x → MovesOn m limit Acted x new
-    → Underway m limit placed (steps (suc n)) (steps (suc n)) (debugger_state m x set) (debugger_state m new set)
+    → PartsUnderway m limit placed (steps (suc n)) (steps (suc n)) (debugger_state m x set) (debugger_state m new set)
 acts_over m limit placed set n x new fit moves =
     moved m limit placed (steps (suc n)) (steps (suc n)) x new set moves.frames moves.fit
     (λ c over s are on_it.
@@ -55,7 +55,7 @@ module _ (m limit : ℕ) (placed : List PlacedText) (set : List ℕ) (all : ℕ)
     pub would : Machine m
     pub there : IsThere m old would count behind
     pub ir_is : ir ≡ would.regs.ir
-    pub under : Underway m limit placed (steps all) (steps left) first (debugger_state m (would_be m limit old would count behind seen) set)
+    pub under : PartsUnderway m limit placed (steps all) (steps left) first (debugger_state m (would_be m limit old would count behind seen) set)
 
   pub steps_first : IsFit m limit old → StepsOn old.seen old.at.machine.regs.ir old.at.steps old.behind all
   steps_first fit = record {
@@ -88,8 +88,8 @@ module _ (m limit : ℕ) (placed : List PlacedText) (set : List ℕ) (all : ℕ)
         ap (λ (r : Regs). r.ir)
         (if_some (λ k. regs ≡ k.regs) (slice_get old.kept (length old.kept - behind)) k (next_is m limit old on.would count behind next next_count on.there few some one count_is) is)
 
-    under_x : Underway m limit placed (steps all) (steps (suc n)) first here
-    under_x = subst (λ j. Underway m limit placed (steps all) (steps j) first here) is_left on.under
+    under_x : PartsUnderway m limit placed (steps all) (steps (suc n)) first here
+    under_x = subst (λ j. PartsUnderway m limit placed (steps all) (steps j) first here) is_left on.under
 
     -- no step led there
     pub passes : next_count ≤ count → (regs : Regs) → IfSome (slice_get old.kept (length old.kept - behind)) (λ k. regs ≡ k.regs) → StepsOn seen regs.ir next_count next left
@@ -100,7 +100,7 @@ module _ (m limit : ℕ) (placed : List PlacedText) (set : List ℕ) (all : ℕ)
           would = would_next;
           there = there_next;
           ir_is = ir_next regs is;
-          under = subst (λ j. Underway m limit placed (steps all) (steps j) first (debugger_state m new set)) (sym is_left)
+          under = subst (λ j. PartsUnderway m limit placed (steps all) (steps j) first (debugger_state m new set)) (sym is_left)
               (goes_on m limit placed (steps all) (steps (suc n)) (steps (suc n)) first here (debugger_state m new set) under_x (acts_over m limit placed set n x new on.under.fit moves));
         }
 
@@ -128,14 +128,14 @@ module _ (m limit : ℕ) (placed : List PlacedText) (set : List ℕ) (all : ℕ)
 
     -- the host failed: the machine is brought to that place
     pub line_fails : count < next_count → (after : Seen) → Sends seen after units.Report (at_line ir count) sent.Failed
-        → (y : Machine m) (k : ℕ) → IsThere m old y k behind → Fails m limit placed (steps all) first (debugger_state m (would_be m limit old y k behind after) set)
+        → (y : Machine m) (k : ℕ) → IsThere m old y k behind → FailsInPart m limit placed (steps all) first (debugger_state m (would_be m limit old y k behind after) set)
     line_fails step after sends y k at =
         let line : Sends seen after units.Report (at_line on.would.regs.ir count) sent.Failed = subst (λ i. Sends seen after units.Report (at_line i count) sent.Failed) on.ir_is sends in
-        brought_there m limit old (λ (z : CursorState m). Fails m limit placed (steps all) first (debugger_state m z set)) after on.would y count k behind few on.there at
+        brought_there m limit old (λ (z : CursorState m). FailsInPart m limit placed (steps all) first (debugger_state m z set)) after on.would y count k behind few on.there at
         (step_failed m limit placed set (steps all) first left n x x is_left on.under (to_it step) (debugger_state m (record x { seen = after }) set) (line_failed m limit placed x set after on.under.fit line))
 
   -- so far the kept places or the steps lead: the machine is brought there
   pub steps_end : (seen : Seen) (ir count behind left : ℕ) → StepsOn seen ir count behind left → (y : Machine m) (k : ℕ) → IsThere m old y k behind
-      → Underway m limit placed (steps all) (steps left) first (debugger_state m (would_be m limit old y k behind seen) set)
+      → PartsUnderway m limit placed (steps all) (steps left) first (debugger_state m (would_be m limit old y k behind seen) set)
   steps_end seen ir count behind left on y k at =
-      brought_there m limit old (λ (z : CursorState m). Underway m limit placed (steps all) (steps left) first (debugger_state m z set)) seen on.would y count k behind on.under.fit.few on.there at on.under
+      brought_there m limit old (λ (z : CursorState m). PartsUnderway m limit placed (steps all) (steps left) first (debugger_state m z set)) seen on.would y count k behind on.under.fit.few on.there at on.under

@@ -1,7 +1,7 @@
 pub mod Marks
 pub mod Tables
 pub mod Numbers
-pub mod Numbered
+pub mod StatementNumbers
 pub mod ShownCells
 pub mod Courses
 pub mod Later

@@ -2,7 +2,7 @@
 use Rattle.std.proofs.Common.{◌≡◌, ◌∙◌, ℕ, suc, ◌≤◌, Bool, true, false, List, refl, sym, ap, subst}
 use Rattle.std.specs.Prelude.{Option, Some, None, IfSome, is_some}
 use Rattle.outside_io.specs.World.{Seen}
-use Rattle.card_unit.specs.Hopper.{hopper_left, own_cards, HasRead}
+use Rattle.card_unit.specs.Hopper.{hopper_left, own_cards, HasReadCards}
 use Rattle.typewriter.specs.Keys.{keys_left}
 use Rattle.typewriter.specs.Keys as keyboard
 use Rattle.cpu_step.specs.declared.machine.Machine.{Machine}
@@ -55,8 +55,8 @@ module _ (m : ℕ) (x : CursorState m) (machine : Machine m) (same : ShowsTheSam
     told_keys = ap (λ (y : Machine m). is_some (keys_left y.keys x.seen.world)) same ∙ frames.told_keys;
     told_sectors = frames.told_sectors;
     own = ap (λ (y : Machine m). own_cards y.hopper) same ∙ frames.own;
-    cards = λ start read. subst (λ (y : Machine m). HasRead start y.hopper x.seen.world) (sym same) (frames.cards start read);
-    lines = λ start read. subst (λ (y : Machine m). keyboard.HasRead start y.keys x.seen.world) (sym same) (frames.lines start read);
+    cards = λ start read. subst (λ (y : Machine m). HasReadCards start y.hopper x.seen.world) (sym same) (frames.cards start read);
+    lines = λ start read. subst (λ (y : Machine m). keyboard.HasReadLines start y.keys x.seen.world) (sym same) (frames.lines start read);
   }
 
   looked_from : (new : Machine m) (after : Seen) → Frames m machine new x.seen after → Frames m x.at.machine new x.seen after
@@ -67,8 +67,8 @@ module _ (m : ℕ) (x : CursorState m) (machine : Machine m) (same : ShowsTheSam
     told_keys = frames.told_keys ∙ ap (λ (y : Machine m). is_some (keys_left y.keys x.seen.world)) same;
     told_sectors = frames.told_sectors;
     own = frames.own ∙ ap (λ (y : Machine m). own_cards y.hopper) same;
-    cards = λ start read. frames.cards start (subst (λ (y : Machine m). HasRead start y.hopper x.seen.world) (sym same) read);
-    lines = λ start read. frames.lines start (subst (λ (y : Machine m). keyboard.HasRead start y.keys x.seen.world) (sym same) read);
+    cards = λ start read. frames.cards start (subst (λ (y : Machine m). HasReadCards start y.hopper x.seen.world) (sym same) read);
+    lines = λ start read. frames.lines start (subst (λ (y : Machine m). keyboard.HasReadLines start y.keys x.seen.world) (sym same) read);
   }
 
   looked_attends : (first : Machine m) (before : Seen) → Attends m first x.at.machine before x.seen → Attends m first machine before x.seen
@@ -79,8 +79,8 @@ module _ (m : ℕ) (x : CursorState m) (machine : Machine m) (same : ShowsTheSam
     told_keys = ap (λ (y : Machine m). is_some (keys_left y.keys x.seen.world)) same ∙ attends.told_keys;
     told_sectors = attends.told_sectors;
     own = ap (λ (y : Machine m). own_cards y.hopper) same ∙ attends.own;
-    cards = λ start read. subst (λ (y : Machine m). HasRead start y.hopper x.seen.world) (sym same) (attends.cards start read);
-    lines = λ start read. subst (λ (y : Machine m). keyboard.HasRead start y.keys x.seen.world) (sym same) (attends.lines start read);
+    cards = λ start read. subst (λ (y : Machine m). HasReadCards start y.hopper x.seen.world) (sym same) (attends.cards start read);
+    lines = λ start read. subst (λ (y : Machine m). keyboard.HasReadLines start y.keys x.seen.world) (sym same) (attends.lines start read);
   }
 
 -- Where the run is over.

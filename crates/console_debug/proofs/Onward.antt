@@ -4,7 +4,7 @@ use Rattle.std.proofs.lemmas.List.{append-nil}
 use Rattle.std.specs.Prelude.{Option, Some, None, nat_le, max, option_map, ◌-◌, ◌&&◌, if◌then◌else◌}
 use Rattle.console_debug.specs.declared.commands.DebugCommand.{DebugCommand}
 use Rattle.console_debug.specs.declared.commands.DebugCommand.TheVariants as command
-use Rattle.console_debug.specs.Places.{is_instruction, turns_to_step, turns_to_stop}
+use Rattle.console_debug.specs.Places.{is_instruction_at, turns_to_step, turns_to_stop}
 use Rattle.console_debug.specs.Session.{Course, Act, Turn, Session, nth_place, places_ahead, turns_from, says, place_line, end_line, goes_to, to_end, to_stop, session_after_step, steps, back, is_kept, session_after, is_quit, session_of}
 use Rattle.console_debug.specs.CursorStates.{turns_or_all}
 use Rattle.console_debug.proofs.Acts.{turns_more, turns_next}
@@ -79,8 +79,8 @@ unfolding session_after
 commanded_onward command.Go c s = stop_onward c s (turns_to_stop c.placed s.breaks (places_ahead c s.at))
 commanded_onward (command.Step n) c s = steps_onward n c s
 commanded_onward (command.Back n) c s = back_onward n c s
-commanded_onward (command.Break n) c s = either_onward s _ _ (is_instruction c.placed n) (onward_else _ s) (onward_says _ s)
-commanded_onward (command.Clear n) c s = either_onward s _ _ (is_instruction c.placed n) (onward_else _ s) (onward_says _ s)
+commanded_onward (command.Break n) c s = either_onward s _ _ (is_instruction_at c.placed n) (onward_else _ s) (onward_says _ s)
+commanded_onward (command.Clear n) c s = either_onward s _ _ (is_instruction_at c.placed n) (onward_else _ s) (onward_says _ s)
 commanded_onward (command.Show at count) c s = onward_says _ s
 commanded_onward command.Quit c s = onward_same s
 

@@ -1,8 +1,8 @@
 -- Under way over the places ahead, none of which is the one that is looked for.
 use Rattle.std.proofs.Common.{◌≡◌, ℕ, suc, ◌+◌, ◌<◌, ◌≤◌, ◌⊎◌, max, Bool, true, false, List, [], ◌∷◌, length, inl, inr, refl, sym, ◌∙◌, ap, subst, arith}
 use Rattle.std.specs.Prelude.{Option, Some, None, option_map}
-use Rattle.cpu_step.proofs.Shown.{frames_same}
-use Rattle.cpu_step.proofs.Exact.{frames_both}
+use Rattle.cpu_step.proofs.ShownStates.{frames_same}
+use Rattle.cpu_step.proofs.ExactCards.{frames_both}
 use Rattle.operator_script.specs.declared.turns.Ending.{Ending}
 use Rattle.operator_script.specs.Turn.{RunPlace, Turning, Ended, turn, place_after_step, IsCutTurn, in_step, in_load}
 use Rattle.console_debug.specs.Places.{Reached, later}

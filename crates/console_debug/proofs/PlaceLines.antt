@@ -16,7 +16,7 @@ use Rattle.console_debug.specs.Lines.{at_line, break_line, ending_line, no_back_
 use Rattle.console_debug.specs.Places.{turns_to_stop}
 use Rattle.console_debug.specs.Session.{Course, Session, nth_place, places_ahead, says, place_line, end_line, to_stop, go, back, session_events}
 use Rattle.console_debug.specs.CursorStates.{CursorState, IsFit, ToAStop, ToTheEnd, BreaksOnTheWay, GoesBack, StaysThere}
-use Rattle.console_debug.specs.Carries.{debugger_state, IsOver, Fails, Carries}
+use Rattle.console_debug.specs.Carries.{debugger_state, IsCourseOver, FailsInPart, CarriesPart}
 use Rattle.console_debug.proofs.Onward.{MakesTurns, stop_makes}
 use Rattle.console_debug.proofs.DebuggerStates.{attends_frames, said, ir_here, mode_here, steps_here, ends_with, moved, broke, broken_at}
 
@@ -32,7 +32,7 @@ says_end c s = says (end_line (nth_place c s.at)) s
 
 -- the machine says them by its own registers, mode and count
 module _ (m limit : ℕ) (placed : List PlacedText) (x : CursorState m) (set : List ℕ) (after : Seen) (fit : IsFit m limit x) where
-  pub at_said : (how : Sent) → Sends x.seen after units.Report (at_line x.at.machine.regs.ir x.at.steps) how → Carries m limit placed says_at (debugger_state m x set) (debugger_state m (record x { seen = after }) set) how
+  pub at_said : (how : Sent) → Sends x.seen after units.Report (at_line x.at.machine.regs.ir x.at.steps) how → CarriesPart m limit placed says_at (debugger_state m x set) (debugger_state m (record x { seen = after }) set) how
   at_said how sends = said m limit placed x set after says_at (at_line x.at.machine.regs.ir x.at.steps) how fit
       (λ c over start s stands.
       let ir = ir_here m c s.at s.furthest x stands.on_it in
@@ -40,7 +40,7 @@ module _ (m limit : ℕ) (placed : List PlacedText) (x : CursorState m) (set : L
       ap (λ (line : List ℕ). says line s) (ap (λ i. at_line i (nth_place c s.at).steps) ir ∙ ap (at_line x.at.machine.regs.ir) steps))
       sends
 
-  pub break_said : (how : Sent) → Sends x.seen after units.Report (break_line placed x.at.machine.regs.ir x.at.steps) how → Carries m limit placed says_break (debugger_state m x set) (debugger_state m (record x { seen = after }) set) how
+  pub break_said : (how : Sent) → Sends x.seen after units.Report (break_line placed x.at.machine.regs.ir x.at.steps) how → CarriesPart m limit placed says_break (debugger_state m x set) (debugger_state m (record x { seen = after }) set) how
   break_said how sends = said m limit placed x set after says_break (break_line placed x.at.machine.regs.ir x.at.steps) how fit
       (λ c over start s stands.
       let ir = ir_here m c s.at s.furthest x stands.on_it in
@@ -50,7 +50,7 @@ module _ (m limit : ℕ) (placed : List PlacedText) (x : CursorState m) (set : L
       sends
 
   pub end_said : (ends : Ending) (how : Sent) → ends ≡ ending_at x.at.machine.mode x.at.machine.regs.ir → Sends x.seen after units.Report (ending_line ends x.at.steps) how
-      → Carries m limit placed says_end (debugger_state m x set) (debugger_state m (record x { seen = after }) set) how
+      → CarriesPart m limit placed says_end (debugger_state m x set) (debugger_state m (record x { seen = after }) set) how
   end_said ends how is sends = said m limit placed x set after says_end (ending_line ends x.at.steps) how fit
       (λ c over start s stands.
       let ir = ir_here m c s.at s.furthest x stands.on_it in
@@ -64,13 +64,13 @@ module _ (m limit : ℕ) (placed : List PlacedText) (x : CursorState m) (set : L
 
 module _ (m limit : ℕ) (placed : List PlacedText) (set : List ℕ) (old mid : CursorState m) where
   -- what GO does by what lies ahead
-  go_by : (c : Course) → IsOver limit placed c → (s : Session) → set ≡ s.breaks → (o : Option ℕ) → turns_to_stop placed set (places_ahead c s.at) ≡ o → go c s ≡ to_stop c s o
+  go_by : (c : Course) → IsCourseOver limit placed c → (s : Session) → set ≡ s.breaks → (o : Option ℕ) → turns_to_stop placed set (places_ahead c s.at) ≡ o → go c s ≡ to_stop c s o
   go_by c over s are o is =
       ap (to_stop c s) (ap (λ (p : List PlacedText). turns_to_stop p s.breaks (places_ahead c s.at)) over.placed_is ∙ ap (λ (b : List ℕ). turns_to_stop placed b (places_ahead c s.at)) (sym are) ∙ is)
 
   -- the line of the stop
   pub stopped : (after : Seen) (how : Sent) → ToAStop m limit placed set old mid → Sends mid.seen after units.Report (break_line placed mid.at.machine.regs.ir mid.at.steps) how
-      → Carries m limit placed go (debugger_state m old set) (debugger_state m (record mid { seen = after }) set) how
+      → CarriesPart m limit placed go (debugger_state m old set) (debugger_state m (record mid { seen = after }) set) how
   stopped after how to sends =
       ends_with m limit placed go says_break (debugger_state m old set) (debugger_state m mid set) (debugger_state m (record mid { seen = after }) set) how
       (moved m limit placed go says_break old mid set to.frames to.fit
@@ -79,7 +79,7 @@ module _ (m limit : ℕ) (placed : List PlacedText) (set : List ℕ) (old mid : 
 
   -- the line of the end, by its ending
   pub ran_out : (ends : Ending) (after : Seen) (how : Sent) → ToTheEnd m limit (turns_to_stop placed set) ends old mid → Sends mid.seen after units.Report (ending_line ends mid.at.steps) how
-      → Carries m limit placed go (debugger_state m old set) (debugger_state m (record mid { seen = after }) set) how
+      → CarriesPart m limit placed go (debugger_state m old set) (debugger_state m (record mid { seen = after }) set) how
   ran_out ends after how to sends =
       ends_with m limit placed go says_end (debugger_state m old set) (debugger_state m mid set) (debugger_state m (record mid { seen = after }) set) how
       (moved m limit placed go says_end old mid set to.frames to.fit
@@ -87,7 +87,7 @@ module _ (m limit : ℕ) (placed : List PlacedText) (set : List ℕ) (old mid : 
       (end_said m limit placed mid set after to.fit ends how to.ending sends)
 
   -- the host failed before
-  pub broke_off : BreaksOnTheWay m limit (turns_to_stop placed set) old mid → Fails m limit placed go (debugger_state m old set) (debugger_state m mid set)
+  pub broke_off : BreaksOnTheWay m limit (turns_to_stop placed set) old mid → FailsInPart m limit placed go (debugger_state m old set) (debugger_state m mid set)
   broke_off fails = broke m limit placed go old mid set fails.frames fails.rose
       (λ c over s are on_it.
       let at = fails.told c s.at s.furthest over.limit_is on_it in
@@ -110,7 +110,7 @@ cannot_go_back k at furthest none = elim (cases_lt at k) [
 module _ (m limit : ℕ) (placed : List PlacedText) (k : ℕ) (set : List ℕ) (old mid : CursorState m) (after : Seen) where
   -- it went there, and its line is that of the place
   pub went_back : (how : Sent) → mid.seen ≡ old.seen → GoesBack m limit k old mid → Sends mid.seen after units.Report (at_line mid.at.machine.regs.ir mid.at.steps) how
-      → Carries m limit placed (back k) (debugger_state m old set) (debugger_state m (record mid { seen = after }) set) how
+      → CarriesPart m limit placed (back k) (debugger_state m old set) (debugger_state m (record mid { seen = after }) set) how
   went_back how same goes sends =
       ends_with m limit placed (back k) says_at (debugger_state m old set) (debugger_state m mid set) (debugger_state m (record mid { seen = after }) set) how
       (record {
@@ -135,10 +135,10 @@ module _ (m limit : ℕ) (placed : List PlacedText) (k : ℕ) (set : List ℕ) (
 
   -- or it stayed, and says so
   pub stayed : (how : Sent) → IsFit m limit old → StaysThere m limit k old mid → Sends mid.seen after units.Report (no_back_line k) how
-      → Carries m limit placed (back k) (debugger_state m old set) (debugger_state m (record mid { seen = after }) set) how
+      → CarriesPart m limit placed (back k) (debugger_state m old set) (debugger_state m (record mid { seen = after }) set) how
   stayed how fit stays sends =
       let stands_still : Sends old.seen after units.Report (no_back_line k) how = subst (λ (x : CursorState m). Sends x.seen after units.Report (no_back_line k) how) stays.same sends in
-      subst (λ (x : CursorState m). Carries m limit placed (back k) (debugger_state m old set) (debugger_state m (record x { seen = after }) set) how) (sym stays.same)
+      subst (λ (x : CursorState m). CarriesPart m limit placed (back k) (debugger_state m old set) (debugger_state m (record x { seen = after }) set) how) (sym stays.same)
       (said m limit placed old set after (back k) (no_back_line k) how fit
       (λ c over start s stands.
       let test = cannot_go_back k s.at s.furthest (stays.told c s.at s.furthest over.limit_is stands.on_it) in

@@ -16,7 +16,7 @@ use Rattle.console_debug.specs.Lines.{at_line, ending_line}
 use Rattle.console_debug.specs.Places.{turns_to_step}
 use Rattle.console_debug.specs.Session.{Course, Session, nth_place, places_ahead, goes_to, steps}
 use Rattle.console_debug.specs.CursorStates.{CursorState, IsOn, IsFit, MovesOn, StaysOn, BreaksOn, Advances, IsStepAhead, ToAStep, ToTheEnd, BreaksOnTheWay}
-use Rattle.console_debug.specs.Carries.{DebuggerState, debugger_state, Does, Fails, Carries, step_on, Underway}
+use Rattle.console_debug.specs.Carries.{DebuggerState, debugger_state, Does, FailsInPart, CarriesPart, step_on, PartsUnderway}
 use Rattle.console_debug.proofs.Looking.{stays_fit, stays_attends}
 use Rattle.console_debug.proofs.Onward.{MakesTurns, step_by, steps_by, steps_onward, goes_onward, goes_makes, step_makes}
 use Rattle.console_debug.proofs.DebuggerStates.{still_on, fails_first, goes_on, does_first, ends_with, all_done, moved, broke, broken_at}
@@ -32,10 +32,10 @@ module _ (m limit : ℕ) (placed : List PlacedText) (x : CursorState m) (set : L
   abbrev behind_line : CursorState m
   behind_line = record x { seen = after }
 
-  pub line_failed : Sends x.seen after units.Report (at_line x.at.machine.regs.ir x.at.steps) sent.Failed → Fails m limit placed step_on (debugger_state m x set) (debugger_state m behind_line set)
+  pub line_failed : Sends x.seen after units.Report (at_line x.at.machine.regs.ir x.at.steps) sent.Failed → FailsInPart m limit placed step_on (debugger_state m x set) (debugger_state m behind_line set)
   line_failed sends = fails_first m limit placed step_on goes_on_one says_at (debugger_state m x set) (debugger_state m behind_line set) (λ c s. refl) (λ c s. goes_onward (s.at + 1) s) (at_said m limit placed x set after fit sent.Failed sends)
 
-  line_done : Sends x.seen after units.Report (at_line x.at.machine.regs.ir x.at.steps) sent.Done → Underway m limit placed step_on goes_on_one (debugger_state m x set) (debugger_state m behind_line set)
+  line_done : Sends x.seen after units.Report (at_line x.at.machine.regs.ir x.at.steps) sent.Done → PartsUnderway m limit placed step_on goes_on_one (debugger_state m x set) (debugger_state m behind_line set)
   line_done sends = does_first m limit placed step_on goes_on_one says_at (debugger_state m x set) (debugger_state m behind_line set) (λ c s. refl) (at_said m limit placed x set after fit sent.Done sends)
 
   -- one place on
@@ -56,7 +56,7 @@ module _ (m limit : ℕ) (placed : List PlacedText) (x : CursorState m) (set : L
       ])
 
   -- the host failed in the move
-  pub step_cut : (new : CursorState m) → Sends x.seen after units.Report (at_line x.at.machine.regs.ir x.at.steps) sent.Done → BreaksOn m limit behind_line new → Fails m limit placed step_on (debugger_state m x set) (debugger_state m new set)
+  pub step_cut : (new : CursorState m) → Sends x.seen after units.Report (at_line x.at.machine.regs.ir x.at.steps) sent.Done → BreaksOn m limit behind_line new → FailsInPart m limit placed step_on (debugger_state m x set) (debugger_state m new set)
   step_cut new sends fails =
       ends_with m limit placed step_on goes_on_one (debugger_state m x set) (debugger_state m behind_line set) (debugger_state m new set) sent.Failed (line_done sends)
       (broke m limit placed goes_on_one behind_line new set fails.frames fails.rose
@@ -91,26 +91,26 @@ module _ (m limit : ℕ) (placed : List PlacedText) (x : CursorState m) (set : L
   step_over new how other next sends advances = stays_over new how next sends (not_failed (BreaksOn m limit behind_line new) (λ e. StaysOn m limit e behind_line new) how other advances)
 
 -- how many steps are left, written otherwise
-pub steps_left : (m limit : ℕ) (placed : List PlacedText) (k j : ℕ) (f : Course → Session → Session) (first now : DebuggerState m) → k ≡ j → Underway m limit placed f (steps k) first now → Underway m limit placed f (steps j) first now
-steps_left m limit placed k j f first now same under = subst (λ i. Underway m limit placed f (steps i) first now) same under
+pub steps_left : (m limit : ℕ) (placed : List PlacedText) (k j : ℕ) (f : Course → Session → Session) (first now : DebuggerState m) → k ≡ j → PartsUnderway m limit placed f (steps k) first now → PartsUnderway m limit placed f (steps j) first now
+steps_left m limit placed k j f first now same under = subst (λ i. PartsUnderway m limit placed f (steps i) first now) same under
 
 -- STEP, of whose steps some are left: the next of them
 module _ (m limit : ℕ) (placed : List PlacedText) (set : List ℕ) (f : Course → Session → Session) (first : DebuggerState m) (k n : ℕ) (old mid : CursorState m) (one : k ≡ suc n)
-    (under : Underway m limit placed f (steps k) first (debugger_state m old set)) where
+    (under : PartsUnderway m limit placed f (steps k) first (debugger_state m old set)) where
   abbrev here : DebuggerState m
   here = debugger_state m old set
 
   abbrev there : DebuggerState m
   there = debugger_state m mid set
 
-  under_one : Underway m limit placed f (steps (suc n)) first here
+  under_one : PartsUnderway m limit placed f (steps (suc n)) first here
   under_one = steps_left m limit placed k (suc n) f first here one under
 
   -- the step, and the others behind it
   abbrev then_steps : Course → Session → Session
   then_steps c s = steps n c (step_on c s)
 
-  at_step : ToAStep m limit old mid → Underway m limit placed f then_steps first there
+  at_step : ToAStep m limit old mid → PartsUnderway m limit placed f then_steps first there
   at_step to = goes_on m limit placed f (steps (suc n)) then_steps first here there under_one
       (moved m limit placed (steps (suc n)) then_steps old mid set to.frames to.fit
       (λ c over s are on_it.
@@ -119,7 +119,7 @@ module _ (m limit : ℕ) (placed : List PlacedText) (set : List ℕ) (f : Course
 
   -- no step comes any more
   pub stepped_out : (ends : Ending) (after : Seen) (how : Sent) → ToTheEnd m limit turns_to_step ends old mid → Sends mid.seen after units.Report (ending_line ends mid.at.steps) how
-      → Carries m limit placed f first (debugger_state m (record mid { seen = after }) set) how
+      → CarriesPart m limit placed f first (debugger_state m (record mid { seen = after }) set) how
   stepped_out ends after how to sends =
       let last = debugger_state m (record mid { seen = after }) set in
       ends_with m limit placed f (steps (suc n)) first here last how under_one
@@ -131,7 +131,7 @@ module _ (m limit : ℕ) (placed : List PlacedText) (set : List ℕ) (f : Course
       (end_said m limit placed mid set after to.fit ends how to.ending sends))
 
   -- the host failed before the step
-  pub step_broke : BreaksOnTheWay m limit turns_to_step old mid → Fails m limit placed f first there
+  pub step_broke : BreaksOnTheWay m limit turns_to_step old mid → FailsInPart m limit placed f first there
   step_broke fails = ends_with m limit placed f (steps (suc n)) first here there sent.Failed under_one
       (broke m limit placed (steps (suc n)) old mid set fails.frames fails.rose
       (λ c over s are on_it.
@@ -142,17 +142,17 @@ module _ (m limit : ℕ) (placed : List PlacedText) (set : List ℕ) (f : Course
       (subst (MakesTurns s (suc j)) (sym (steps_by c n s)) (step_makes c n s o (suc j) (omega (arith, at.1, at.2))))))
 
   -- a step that was made, or in which the host failed
-  pub step_then : ToAStep m limit old mid → (last : DebuggerState m) → Does m limit placed step_on there last → Underway m limit placed f (steps n) first last
+  pub step_then : ToAStep m limit old mid → (last : DebuggerState m) → Does m limit placed step_on there last → PartsUnderway m limit placed f (steps n) first last
   step_then to last does =
       goes_on m limit placed f then_steps (steps n) first there last (at_step to)
       (does_first m limit placed then_steps (steps n) step_on there last (λ c s. refl) does)
 
-  pub step_failed : ToAStep m limit old mid → (last : DebuggerState m) → Fails m limit placed step_on there last → Fails m limit placed f first last
+  pub step_failed : ToAStep m limit old mid → (last : DebuggerState m) → FailsInPart m limit placed step_on there last → FailsInPart m limit placed f first last
   step_failed to last fails =
       ends_with m limit placed f then_steps first there last sent.Failed (at_step to)
       (fails_first m limit placed then_steps (steps n) step_on there last (λ c s. refl) (λ c s. steps_onward n c s) fails)
 
 -- none is left
-pub steps_done : (m limit : ℕ) (placed : List PlacedText) (k : ℕ) (f : Course → Session → Session) (first now : DebuggerState m) → k ≡ 0 → Underway m limit placed f (steps k) first now → Does m limit placed f first now
+pub steps_done : (m limit : ℕ) (placed : List PlacedText) (k : ℕ) (f : Course → Session → Session) (first now : DebuggerState m) → k ≡ 0 → PartsUnderway m limit placed f (steps k) first now → Does m limit placed f first now
 unfolding steps
 steps_done m limit placed k f first now none under = all_done m limit placed f first now (steps_left m limit placed k 0 f first now none under)

@@ -16,7 +16,7 @@ use Rattle.cpu_step.specs.declared.machine.Machine.{Machine}
 use Rattle.cpu_step.specs.State.{State}
 use Rattle.cpu_step.specs.Machine.{is_faulted, is_read, is_written, Frames, state_with, over_all}
 use Rattle.cpu_step.specs.Stores.{ShowsTheSame}
-use Rattle.cpu_step.proofs.Exact.{state_is}
+use Rattle.cpu_step.proofs.ExactCards.{state_is}
 use Rattle.operator_script.specs.declared.turns.Ending.{Ending}
 use Rattle.operator_script.specs.declared.turns.TurnEnd.TheVariants as end
 use Rattle.operator_script.specs.Turn.{RunPlace, Turning, turn, place_after, IsCutTurn, ending_at, ending_of}

@@ -1,7 +1,7 @@
 -- Under way to the next stop.
 use Rattle.std.proofs.Common.{◌≡◌, ℕ, suc, ◌+◌, ◌⊎◌, ◌&&◌, max, Bool, true, false, List, [], ◌∷◌, inl, inr, refl, ◌∙◌, ap, subst, arith}
 use Rattle.std.specs.Prelude.{Some, None, option_map}
-use Rattle.cpu_step.proofs.Exact.{frames_both}
+use Rattle.cpu_step.proofs.ExactCards.{frames_both}
 use Rattle.operator_script.specs.declared.turns.Ending.{Ending}
 use Rattle.operator_script.specs.declared.turns.Ending.TheVariants as ending
 use Rattle.operator_script.specs.declared.turns.TurnEnd.TheVariants as end
@@ -13,7 +13,7 @@ use Rattle.console_debug.specs.Session.{Course, nth_place, places_ahead, place_a
 use Rattle.console_debug.specs.CursorStates.{CursorState, IsOn, MovesOn, StaysOn, BreaksOn, Advances, ToAStop, ToTheEnd, BreaksOnTheWay, ToStop, PassesOn}
 use Rattle.console_debug.proofs.Courses.{led_by}
 use Rattle.cpu_step.specs.declared.machine.Mode.{Mode}
-use Rattle.cpu_step.proofs.Exact.{state_is}
+use Rattle.cpu_step.proofs.ExactCards.{state_is}
 use Rattle.cpu_step.specs.State.{State}
 use Rattle.operator_script.proofs.Running.{place_is}
 use Rattle.console_debug.proofs.Passing.{IsPassed, within_limit, passes_by, ends_at, breaks_at}

@@ -8,7 +8,7 @@ use Rattle.std.specs.Prelude.{if◌then◌else◌, slice_index_or, slice_set, re
 use Rattle.std.specs.List.{filter, list_any}
 use Rattle.sps_pass_two.specs.Assembled.{PlacedText}
 use Rattle.console_debug.specs.declared.breaks.Breaks.{Breaks}
-use Rattle.console_debug.specs.Breakpoints.{AreNumbers, HasTables, count_at, is_set, set_from, set_now, since_of, times_set}
+use Rattle.console_debug.specs.Breakpoints.{AreNumbersByAddress, HasTables, count_at, is_set, set_from, set_now, since_of, times_set}
 use Rattle.console_debug.specs.Places.{has_break, is_at, statement_address}
 use Rattle.console_debug.specs.Session.{with_break, without_break}
 use Rattle.console_debug.proofs.Marks.{one_if, count_any, count_more, count_without, set_few, set_more, set_without, zeros}
@@ -172,7 +172,7 @@ module _ (placed : List PlacedText) (old new : Breaks) (s a : ℕ) (tables : Has
           omega (arith, same, long, before);
       times = both_same AreTimes new.times.items _ (set_now new) _ times set_on (times_more (set_now old) old.times.items tables.times s);
       counts = both_same (AreCounts placed) new.counts.items _ (set_now new) _ counts set_on (counts_more (statement_address placed) (set_now old) old.counts.items tables.counts s a there);
-      numbers = subst (AreNumbers placed) (sym numbers) tables.numbers;
+      numbers = subst (AreNumbersByAddress placed) (sym numbers) tables.numbers;
     }
 
   -- and cleared
@@ -212,12 +212,12 @@ module _ (placed : List PlacedText) (old new : Breaks) (s a : ℕ) (tables : Has
           omega (arith, same, long, before);
       times = both_same AreTimes new.times.items _ (set_now new) _ times cleared_on (times_cleared (set_now old) old.times.items tables.times s);
       counts = both_same (AreCounts placed) new.counts.items _ (set_now new) _ counts cleared_on (counts_cleared (statement_address placed) (set_now old) old.counts.items tables.counts s a there (slice_index_or old.times.items s 0) count_is);
-      numbers = subst (AreNumbers placed) (sym numbers) tables.numbers;
+      numbers = subst (AreNumbersByAddress placed) (sym numbers) tables.numbers;
     }
 
 -- none is set
 pub tables_empty : (placed : List PlacedText) (new : Breaks) (n k j : ℕ) → new.log.items ≡ [] → new.since.items ≡ replicate n 0 → new.times.items ≡ replicate k 0 → new.counts.items ≡ replicate j 0
-    → AreNumbers placed new.numbers.items → length placed < length new.since.items → length placed < length new.times.items → HasTables placed new
+    → AreNumbersByAddress placed new.numbers.items → length placed < length new.since.items → length placed < length new.times.items → HasTables placed new
 unfolding set_from
 tables_empty placed new n k j log since times counts numbers since_reach times_reach =
     let none : set_now new ≡ [] = ap (λ (xs : List ℕ). set_from (since_of new.since.items) 0 xs) log in

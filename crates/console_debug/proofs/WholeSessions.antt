@@ -19,7 +19,7 @@ use Rattle.console_debug.specs.declared.commands.DebugCommand.{DebugCommand}
 use Rattle.console_debug.specs.Grammar.{is_break}
 use Rattle.console_debug.specs.Session.{Course, Session, session_after, is_quit, session_of, at_first}
 use Rattle.console_debug.specs.CursorStates.{CursorState, cursor_state, kept_at_place, IsOn, IsFitPlace, IsFit}
-use Rattle.console_debug.specs.Carries.{DebuggerState, debugger_state, StandsIn, Does, Fails, Carries, Underway}
+use Rattle.console_debug.specs.Carries.{DebuggerState, debugger_state, StandsIn, Does, FailsInPart, CarriesPart, PartsUnderway}
 use Rattle.console_debug.specs.Debugs.{task, course_of, without_count, StandsBy, StandsWithin, EndsSession, BreaksSession}
 use Rattle.console_debug.proofs.Stepping.{kept_told}
 use Rattle.console_debug.proofs.Onward.{session_onward}
@@ -44,30 +44,30 @@ none_of left c s is = ap (λ (all : List DebugCommand). session_of all c s) is
 
 module _ (m limit : ℕ) (placed : List PlacedText) (f : Course → Session → Session) (first now : DebuggerState m) where
   -- the front command was carried out
-  pub command_done : (x : DebugCommand) (xs left : List DebugCommand) (next : DebuggerState m) → left ≡ x ∷ xs → is_quit x ≡ false → Underway m limit placed f (session_of left) first now
-      → Does m limit placed (session_after x) now next → Underway m limit placed f (session_of xs) first next
+  pub command_done : (x : DebugCommand) (xs left : List DebugCommand) (next : DebuggerState m) → left ≡ x ∷ xs → is_quit x ≡ false → PartsUnderway m limit placed f (session_of left) first now
+      → Does m limit placed (session_after x) now next → PartsUnderway m limit placed f (session_of xs) first next
   command_done x xs left next is other under does =
       goes_on m limit placed f (session_of left) (session_of xs) first now next under
       (does_first m limit placed (session_of left) (session_of xs) (session_after x) now next (λ c s. front_of x xs left c s is other) does)
 
   -- the host failed in it
-  pub command_failed : (x : DebugCommand) (xs left : List DebugCommand) (next : DebuggerState m) → left ≡ x ∷ xs → is_quit x ≡ false → Underway m limit placed f (session_of left) first now
-      → Fails m limit placed (session_after x) now next → Fails m limit placed f first next
+  pub command_failed : (x : DebugCommand) (xs left : List DebugCommand) (next : DebuggerState m) → left ≡ x ∷ xs → is_quit x ≡ false → PartsUnderway m limit placed f (session_of left) first now
+      → FailsInPart m limit placed (session_after x) now next → FailsInPart m limit placed f first next
   command_failed x xs left next is other under fails =
       ends_with m limit placed f (session_of left) first now next sent.Failed under
       (fails_first m limit placed (session_of left) (session_of xs) (session_after x) now next (λ c s. front_of x xs left c s is other) (λ c s. session_onward xs c s) fails)
 
-  all_over : (left : List DebugCommand) → ((c : Course) (s : Session) → session_of left c s ≡ s) → Underway m limit placed f (session_of left) first now → Does m limit placed f first now
+  all_over : (left : List DebugCommand) → ((c : Course) (s : Session) → session_of left c s ≡ s) → PartsUnderway m limit placed f (session_of left) first now → Does m limit placed f first now
   all_over left over under =
       all_done m limit placed f first now
       (goes_on m limit placed f (session_of left) (λ c s. s) first now now under (begins m limit placed (session_of left) (λ c s. s) now over under.fit))
 
   -- it is QUIT
-  pub command_quits : (x : DebugCommand) (xs left : List DebugCommand) → left ≡ x ∷ xs → is_quit x ≡ true → Underway m limit placed f (session_of left) first now → Does m limit placed f first now
+  pub command_quits : (x : DebugCommand) (xs left : List DebugCommand) → left ≡ x ∷ xs → is_quit x ≡ true → PartsUnderway m limit placed f (session_of left) first now → Does m limit placed f first now
   command_quits x xs left is quits under = all_over left (λ c s. quit_of x xs left c s is quits) under
 
   -- there is none
-  pub none_left : (left : List DebugCommand) → left ≡ [] → Underway m limit placed f (session_of left) first now → Does m limit placed f first now
+  pub none_left : (left : List DebugCommand) → left ≡ [] → PartsUnderway m limit placed f (session_of left) first now → Does m limit placed f first now
   none_left left is under = all_over left (λ c s. none_of left c s is) under
 
 -- Where there was room for the breakpoint of each BREAK that is left, there is room behind the first of these commands.
@@ -111,8 +111,8 @@ module _ (m limit : ℕ) (placed : List PlacedText) (machine : Machine m) (scrip
 
   -- what was carried out from there, where the kept place, the breakpoints and the commands are these
   pub from_first : (kept : List Kept) (set : List ℕ) (list commands : List DebugCommand) (next : DebuggerState m) (how : Sent) → kept ≡ place_of_machine m machine 0 ∷ [] → set ≡ [] → list ≡ commands
-      → Carries m limit placed (session_of list) (debugger_state m (cursor_state m machine script 0 kept 0 seen) set) next how
-      → Carries m limit placed (session_of commands) (debugger_state m first_cursor_state []) next how
+      → CarriesPart m limit placed (session_of list) (debugger_state m (cursor_state m machine script 0 kept 0 seen) set) next how
+      → CarriesPart m limit placed (session_of commands) (debugger_state m first_cursor_state []) next how
   from_first kept set list commands next how one none same carries = rw (one, none, same) at carries
 
   first_on : (p : RunPlace) → place_of m (run_state m machine script 0) seen.world ≡ Some p → IsOn m (record { limit = limit; placed = placed; first = p }) 0 0 first_cursor_state
@@ -148,7 +148,7 @@ module _ (m limit : ℕ) (placed : List PlacedText) (machine : Machine m) (scrip
       frames = does.frames;
     }
 
-    pub session_broke : Fails m limit placed (session_of commands) (debugger_state m first_cursor_state []) (debugger_state m last breaks)
+    pub session_broke : FailsInPart m limit placed (session_of commands) (debugger_state m first_cursor_state []) (debugger_state m last breaks)
         → BreaksSession m (task limit placed commands) (moment m machine script 0 seen) (without_count m last.at.machine last.at.script last.seen)
     session_broke fails = record {
       steps = last.at.steps;

@@ -32,8 +32,8 @@ abbrev pub count_at : List PlacedText → ℕ → List ℕ → ℕ
 count_at placed address breaks = count_by (λ b. is_at address (statement_address placed b)) breaks
 
 -- by an address the number of the last instruction there, 0 where there is none
-abbrev pub AreNumbers : List PlacedText → List ℕ → Type 0
-AreNumbers placed numbers = (a : ℕ) → a < length numbers → slice_index_or numbers a 0 ≡ statement_number placed a
+abbrev pub AreNumbersByAddress : List PlacedText → List ℕ → Type 0
+AreNumbersByAddress placed numbers = (a : ℕ) → a < length numbers → slice_index_or numbers a 0 ≡ statement_number placed a
 
 -- the tables tell of the breakpoints that are set over these statements
 pub record HasTables (placed : List PlacedText) (breaks : Breaks) : Type 0 where
@@ -43,7 +43,7 @@ pub record HasTables (placed : List PlacedText) (breaks : Breaks) : Type 0 where
   pub times : (s : ℕ) → s < length breaks.times.items → slice_index_or breaks.times.items s 0 ≡ times_set s (set_now breaks)
   pub counts : (a : ℕ) → a < length breaks.counts.items
       → slice_index_or breaks.counts.items a 0 ≡ count_at placed a (set_now breaks)
-  pub numbers : AreNumbers placed breaks.numbers.items
+  pub numbers : AreNumbersByAddress placed breaks.numbers.items
 
 -- there is room for so many breakpoints, and for what is told of each statement
 abbrev pub HasRoomIn : ℕ → Breaks → Type 0

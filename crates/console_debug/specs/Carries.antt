@@ -12,7 +12,7 @@ use Rattle.sps_pass_two.specs.Assembled.{PlacedText}
 use Rattle.console_debug.specs.declared.debugger.Debugger.{Debugger}
 use Rattle.console_debug.specs.Breakpoints.{HasTables, HasRoomIn, set_now}
 use Rattle.console_debug.specs.Lines.{no_statement_line}
-use Rattle.console_debug.specs.Places.{is_instruction}
+use Rattle.console_debug.specs.Places.{is_instruction_at}
 use Rattle.console_debug.specs.Session.{Course, Session, nth_place, says, goes_to, place_line, session_events, steps, turns_in}
 use Rattle.console_debug.specs.CursorStates.{CursorState, cursor_state_of, IsSameCursor, IsOn, IsFit}
 use Rattle.console_debug.specs.Debugs.{Attends, StandsWithin}
@@ -60,39 +60,39 @@ abbrev pub StopsIn : (m : ℕ) → Course → DebuggerState m → World → Sess
 StopsIn m c x start s = StandsWithin m c (moment_of m x) start s.acts
 
 -- a course over these statements, under this limit
-pub record IsOver (limit : ℕ) (placed : List PlacedText) (c : Course) : Type 0 where
+pub record IsCourseOver (limit : ℕ) (placed : List PlacedText) (c : Course) : Type 0 where
   pub limit_is : c.limit ≡ limit
   pub placed_is : c.placed ≡ placed
 
 -- over each such course a session was led to the one that this function gives
 pub record Does (m limit : ℕ) (placed : List PlacedText) (f : Course → Session → Session) (old new : DebuggerState m) : Type 0 where
-  pub told : (c : Course) → IsOver limit placed c → (start : World) (s : Session)
+  pub told : (c : Course) → IsCourseOver limit placed c → (start : World) (s : Session)
       → StandsIn m c old start s → StandsIn m c new start (f c s)
   pub fit : IsFit m limit new.cursor_state
   pub frames : Attends m old.cursor_state.at.machine new.cursor_state.at.machine old.cursor_state.seen new.cursor_state.seen
 
 -- the host failed on the way there
-pub record Fails (m limit : ℕ) (placed : List PlacedText) (f : Course → Session → Session) (old new : DebuggerState m) : Type 0 where
-  pub told : (c : Course) → IsOver limit placed c → (start : World) (s : Session)
+pub record FailsInPart (m limit : ℕ) (placed : List PlacedText) (f : Course → Session → Session) (old new : DebuggerState m) : Type 0 where
+  pub told : (c : Course) → IsCourseOver limit placed c → (start : World) (s : Session)
       → StandsIn m c old start s → StopsIn m c new start (f c s)
   pub rose : Rose old.cursor_state.seen.faults new.cursor_state.seen.faults
   pub frames : Attends m old.cursor_state.at.machine new.cursor_state.at.machine old.cursor_state.seen new.cursor_state.seen
 
 -- a part of a session was carried out
-abbrev pub Carries : (m limit : ℕ) → List PlacedText → (Course → Session → Session) → DebuggerState m → DebuggerState m → Sent → Type 0
-Carries m limit placed f old new sent.Done = Does m limit placed f old new
-Carries m limit placed f old new sent.Failed = Fails m limit placed f old new
+abbrev pub CarriesPart : (m limit : ℕ) → List PlacedText → (Course → Session → Session) → DebuggerState m → DebuggerState m → Sent → Type 0
+CarriesPart m limit placed f old new sent.Done = Does m limit placed f old new
+CarriesPart m limit placed f old new sent.Failed = FailsInPart m limit placed f old new
 
 -- parts of a session are done: of what the first function gives, the second is left
-pub record Underway (m limit : ℕ) (placed : List PlacedText) (f g : Course → Session → Session) (first now : DebuggerState m) : Type 0 where
-  pub told : (c : Course) → IsOver limit placed c → (start : World) (s : Session) → StandsIn m c first start s → (t : Session) × StandsIn m c now start t × (f c s ≡ g c t)
+pub record PartsUnderway (m limit : ℕ) (placed : List PlacedText) (f g : Course → Session → Session) (first now : DebuggerState m) : Type 0 where
+  pub told : (c : Course) → IsCourseOver limit placed c → (start : World) (s : Session) → StandsIn m c first start s → (t : Session) × StandsIn m c now start t × (f c s ≡ g c t)
   pub fit : IsFit m limit now.cursor_state
   pub frames : Attends m first.cursor_state.at.machine now.cursor_state.at.machine first.cursor_state.seen now.cursor_state.seen
 
 -- so many steps over kept places: how many of them are left, or the host failed
 abbrev pub StepsOver : (m limit : ℕ) → List PlacedText → ℕ → DebuggerState m → DebuggerState m → Option ℕ → Type 0
-StepsOver m limit placed count old new (Some left) = Underway m limit placed (steps count) (steps left) old new
-StepsOver m limit placed count old new None = Fails m limit placed (steps count) old new
+StepsOver m limit placed count old new (Some left) = PartsUnderway m limit placed (steps count) (steps left) old new
+StepsOver m limit placed count old new None = FailsInPart m limit placed (steps count) old new
 
 -- The move that a step is.
 
@@ -117,4 +117,4 @@ SetsIf false n change old new how =
     (new.breaks ≡ old.breaks) × Sends old.seen new.seen units.Report (no_statement_line n) how
 
 abbrev pub Sets : List PlacedText → ℕ → (List ℕ → List ℕ) → Marks → Marks → Sent → Type 0
-Sets placed n change old new how = SetsIf (is_instruction placed n) n change old new how
+Sets placed n change old new how = SetsIf (is_instruction_at placed n) n change old new how

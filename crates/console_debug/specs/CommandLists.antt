@@ -20,8 +20,8 @@ abbrev pub breakpoints : Commands → List ℕ
 breakpoints commands = commands.breaks.statements.items
 
 -- there is room for the breakpoint of each BREAK, and for its address
-abbrev pub HasRoom : Commands → Type 0
-HasRoom commands = HasRoomIn (count_by is_break (command_list commands)) commands.breaks
+abbrev pub HasBreakRoom : Commands → Type 0
+HasBreakRoom commands = HasRoomIn (count_by is_break (command_list commands)) commands.breaks
 
 -- a command as the grammar gives it: numbers of at most 15 digits, 1 to 1,000 places, and 1 to 1,000 cells within a core of so many
 -- positions
@@ -34,12 +34,12 @@ IsCommand positions (command.Show at count) = (1 ≤ count) × (count ≤ most_s
 IsCommand positions other = ⊤
 
 -- the reading of commands: the list that the bytes are, or their first bad line, or no memory
-abbrev pub Reads : ℕ → List ℕ → Result Commands CommandFault → Type 0
-Reads positions bytes (Ok commands) = commands_of positions bytes ≡ Ok (command_list commands)
-Reads positions bytes (Err (fault.BadLine line)) = commands_of positions bytes ≡ Err line
-Reads positions bytes (Err fault.Memory) = ⊤
+abbrev pub ReadsAsCommands : ℕ → List ℕ → Result Commands CommandFault → Type 0
+ReadsAsCommands positions bytes (Ok commands) = commands_of positions bytes ≡ Ok (command_list commands)
+ReadsAsCommands positions bytes (Err (fault.BadLine line)) = commands_of positions bytes ≡ Err line
+ReadsAsCommands positions bytes (Err fault.Memory) = ⊤
 
 -- why commands were not read, by why their lines were not
-abbrev pub fault_of : LineFault → CommandFault
-fault_of (lines.BadLine line) = fault.BadLine line
-fault_of lines.Memory = fault.Memory
+abbrev pub command_fault_of : LineFault → CommandFault
+command_fault_of (lines.BadLine line) = fault.BadLine line
+command_fault_of lines.Memory = fault.Memory

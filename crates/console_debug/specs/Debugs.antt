@@ -6,7 +6,7 @@ use Rattle.outside_io.specs.declared.host.Unit.TheVariants as units
 use Rattle.outside_io.specs.World.{World, Seen, Rose, same_unit}
 use Rattle.outside_io.specs.Frame.{Keeps}
 use Rattle.outside_io.specs.Events.{Event, cards_in, lines_in, IsFirstPart, DidAll}
-use Rattle.card_unit.specs.Hopper.{hopper_left, own_cards, ReadsOn}
+use Rattle.card_unit.specs.Hopper.{hopper_left, own_cards, GoesOnReadingCards}
 use Rattle.typewriter.specs.Keys.{keys_left}
 use Rattle.typewriter.specs.Keys as keyboard
 use Rattle.cpu_step.specs.declared.machine.Machine.{Machine}
@@ -34,8 +34,8 @@ pub record Attends (m : ℕ) (old new : Machine m) (before after : Seen) : Type 
   pub told_keys : is_some (keys_left new.keys after.world) ≡ is_some (keys_left old.keys before.world)
   pub told_sectors : is_some after.world.sectors ≡ is_some before.world.sectors
   pub own : own_cards new.hopper ≡ own_cards old.hopper
-  pub cards : ReadsOn old.hopper new.hopper before after
-  pub lines : keyboard.ReadsOn old.keys new.keys before after
+  pub cards : GoesOnReadingCards old.hopper new.hopper before after
+  pub lines : keyboard.GoesOnReadingLines old.keys new.keys before after
 
 -- a moment stands where the session does, its breakpoints are set, and all that it does outside was done; the cards and the lines of the
 -- keyboard that are left are those of the first place without the ones that were taken
@@ -48,9 +48,9 @@ pub record StandsBy (m : ℕ) (c : Course) (x : Moment m) (breaks : List ℕ) (b
 
 -- where the machine and its units stand within an act, when so many turns were made before: while a line is printed, at the place of the
 -- line, outside which all is as those turns left it; within a turn, after a part of it
-abbrev pub IsWithin : Course → ℕ → Act → RunPlace → Type 0
-IsWithin c turns (Line at text) place = place ≡ place_as_seen (nth_place c at) (nth_place c turns)
-IsWithin c turns (Turn from) place = IsCutTurn c.limit (nth_place c from) place
+abbrev pub IsWithinAct : Course → ℕ → Act → RunPlace → Type 0
+IsWithinAct c turns (Line at text) place = place ≡ place_as_seen (nth_place c at) (nth_place c turns)
+IsWithinAct c turns (Turn from) place = IsCutTurn c.limit (nth_place c from) place
 
 -- ONE MOMENT within a list of acts: the first of them are done, and a part of the next. The machine, its cards and lines, the script, and
 -- what was printed, punched, typed and written are all of that moment; the cards and the lines of the keyboard that are left are those of the
@@ -62,7 +62,7 @@ pub record StandsWithin (m : ℕ) (c : Course) (x : Moment m) (before : World) (
   pub parts : done ++ next ∷ rest ≡ acts
   pub place : RunPlace
   pub place_is : place_in m x ≡ Some place
-  pub within : IsWithin c (turns_in done) next place
+  pub within : IsWithinAct c (turns_in done) next place
   pub part : List Event
   pub first : IsFirstPart part (act_events c next)
   pub did : DidAll (session_events c done ++ part) before x.seen.world

@@ -2,7 +2,7 @@
 use Rattle.std.specs.Prelude.{ℕ, Bool, true, false, List, [], ◌∷◌, codes, bytes_eq, if◌then◌else◌, Option, None, option_map, option_and_then, Result}
 use Rattle.line_words.specs.Words.{words_of, number, number_in}
 use Rattle.line_words.specs.Arguments.{alone, one_word, span_below, two_words}
-use Rattle.line_words.specs.Lines.{lines_read}
+use Rattle.line_words.specs.Lines.{items_of_lines}
 use Rattle.line_words.specs.declared.arguments.Span.{Span}
 use Rattle.console_debug.specs.declared.commands.DebugCommand.{DebugCommand}
 use Rattle.console_debug.specs.declared.commands.DebugCommand.TheVariants as command
@@ -43,7 +43,7 @@ command_of positions text = command_of_words positions (words_of text)
 
 -- the commands that some bytes are; else the number of the first bad line, all lines being counted from 1
 unfoldable pub commands_of : ℕ → List ℕ → Result (List DebugCommand) ℕ
-commands_of positions bytes = lines_read (command_of positions) bytes
+commands_of positions bytes = items_of_lines (command_of positions) bytes
 
 -- BREAK s, which sets a breakpoint
 abbrev pub is_break : DebugCommand → Bool

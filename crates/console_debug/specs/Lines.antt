@@ -7,7 +7,8 @@ use Rattle.card_code.specs.Characters.{object_char}
 use Rattle.operator_script.specs.declared.turns.Ending.{Ending}
 use Rattle.operator_script.specs.declared.turns.Ending.TheVariants as ending
 use Rattle.sps_pass_two.specs.Assembled.{PlacedText}
-use Rattle.report_lines.specs.Numbers.{digits_to_width, with_line_feed, at_count, at_steps}
+use Rattle.outside_io.specs.Lines.{with_line_feed}
+use Rattle.report_lines.specs.Numbers.{digits_to_width, at_count, at_steps}
 use Rattle.report_lines.specs.Endings.{halt_line, check_line, limit_line, need_cards_line, need_keys_line, jam_line}
 use Rattle.sps_listing.specs.Listing.{statement_at}
 

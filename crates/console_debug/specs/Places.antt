@@ -37,8 +37,8 @@ statement_address (p ∷ ps) zero = None
 statement_address (p ∷ ps) (suc zero) = instruction_address p
 statement_address (p ∷ ps) (suc (suc n)) = statement_address ps (suc n)
 
-abbrev pub is_instruction : List PlacedText → ℕ → Bool
-is_instruction placed s = is_some (statement_address placed s)
+abbrev pub is_instruction_at : List PlacedText → ℕ → Bool
+is_instruction_at placed s = is_some (statement_address placed s)
 
 abbrev pub is_at : ℕ → Option ℕ → Bool
 is_at ir None = false

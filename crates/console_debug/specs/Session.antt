@@ -10,7 +10,7 @@ use Rattle.rewind_log.specs.Kept.{most_places}
 use Rattle.console_debug.specs.declared.commands.DebugCommand.{DebugCommand}
 use Rattle.console_debug.specs.declared.commands.DebugCommand.TheVariants as command
 use Rattle.console_debug.specs.Lines.{ending_line, at_line, break_line, no_statement_line, no_back_line, show_line}
-use Rattle.console_debug.specs.Places.{Reached, later, is_instruction, turns_to_stop, turns_to_step}
+use Rattle.console_debug.specs.Places.{Reached, later, is_instruction_at, turns_to_stop, turns_to_step}
 
 -- what a session goes over: the places of a run from its first on, under a limit, and the statements as they were placed
 pub record Course : Type 0 where
@@ -115,13 +115,13 @@ without_break n breaks = filter (λ b. not (b == n)) breaks
 -- BREAK s
 abbrev pub set_break : List PlacedText → ℕ → Session → Session
 set_break placed n s =
-    if is_instruction placed n then record s { breaks = with_break n s.breaks }
+    if is_instruction_at placed n then record s { breaks = with_break n s.breaks }
     else says (no_statement_line n) s
 
 -- CLEAR s
 abbrev pub clear_break : List PlacedText → ℕ → Session → Session
 clear_break placed n s =
-    if is_instruction placed n then record s { breaks = without_break n s.breaks }
+    if is_instruction_at placed n then record s { breaks = without_break n s.breaks }
     else says (no_statement_line n) s
 
 -- SHOW a n

@@ -2,9 +2,9 @@
 ghost use Rattle.std.specs.Prelude.{◌≡◌, ◌≤◌, ◌<◌, ◌+◌, ◌-◌, ◌^◌, [], IfOk, length, slice_index_or, slice_set, vec_len, if◌then◌else◌};
 ghost use Rattle.sps_listing.specs.Listing.{placed_texts};
 ghost use Rattle.sps_pass_two.specs.Making.{text_of_placed};
-ghost use Rattle.console_debug.specs.Breakpoints.{AreNumbers, HasTables, HasRoomIn, HasSameRoom, is_set, set_now, since_of};
+ghost use Rattle.console_debug.specs.Breakpoints.{AreNumbersByAddress, HasTables, HasRoomIn, HasSameRoom, is_set, set_now, since_of};
 ghost use Rattle.console_debug.specs.Lines.{statement_number};
-ghost use Rattle.console_debug.specs.Places.{has_break, instruction_address, is_at, is_instruction, statement_address};
+ghost use Rattle.console_debug.specs.Places.{has_break, instruction_address, is_at, is_instruction_at, statement_address};
 ghost use Rattle.console_debug.specs.Session.{with_break, without_break};
 
 use digit_core::MOST_POSITIONS;
@@ -77,13 +77,13 @@ impl Breaks {
     pub(crate) fn set(&mut self, assembled: &Assembled, statement: u64) -> bool
         requires room { HasRoomIn (vec_len self.old.log + 1) self.old }
         requires tables { HasTables (placed_texts assembled.now) self.old }
-        ensures is { result ≡ is_instruction (placed_texts assembled.now) statement }
+        ensures is { result ≡ is_instruction_at (placed_texts assembled.now) statement }
         ensures set { set_now self.new ≡ (if result then with_break statement (set_now self.old) else set_now self.old) }
         ensures tables { HasTables (placed_texts assembled.now) self.new }
         ensures len { vec_len self.new.log ≤ vec_len self.old.log + 1 }
         ensures room { HasSameRoom self.old self.new }
     {
-        let Some(address) = address_of(assembled, statement) else {
+        let Some(address) = statement_address(assembled, statement) else {
             return false;
         };
         raise(&mut self.times, statement as usize);
@@ -95,13 +95,13 @@ impl Breaks {
     // Clears the breakpoint of a statement, wherever it was set, where it is an instruction; whether it is.
     pub(crate) fn clear(&mut self, assembled: &Assembled, statement: u64) -> bool
         requires tables { HasTables (placed_texts assembled.now) self.old }
-        ensures is { result ≡ is_instruction (placed_texts assembled.now) statement }
+        ensures is { result ≡ is_instruction_at (placed_texts assembled.now) statement }
         ensures set { set_now self.new ≡ (if result then without_break statement (set_now self.old) else set_now self.old) }
         ensures tables { HasTables (placed_texts assembled.now) self.new }
         ensures len { vec_len self.new.log ≡ vec_len self.old.log }
         ensures room { HasSameRoom self.old self.new }
     {
-        let Some(address) = address_of(assembled, statement) else {
+        let Some(address) = statement_address(assembled, statement) else {
             return false;
         };
         let statement = statement as usize;
@@ -112,7 +112,7 @@ impl Breaks {
     }
 
     // Whether a breakpoint is set at an address.
-    pub(crate) fn has(&self, assembled: &Assembled, ir: u32) -> bool
+    pub(crate) fn has_break(&self, assembled: &Assembled, ir: u32) -> bool
         requires { HasTables (placed_texts assembled.now) self.now }
         ensures { result ≡ has_break (placed_texts assembled.now) (set_now self.now) ir }
     {
@@ -120,11 +120,11 @@ impl Breaks {
         if address < self.counts.len() {
             return self.counts[address] > 0;
         }
-        self.has_beyond(assembled, ir)
+        self.has_break_beyond(assembled, ir)
     }
 
     // The same for an address that the table of counts does not reach.
-    fn has_beyond(&self, assembled: &Assembled, ir: u32) -> bool
+    fn has_break_beyond(&self, assembled: &Assembled, ir: u32) -> bool
         requires { HasTables (placed_texts assembled.now) self.now }
         ensures { result ≡ has_break (placed_texts assembled.now) (set_now self.now) ir }
     {
@@ -151,7 +151,7 @@ impl Breaks {
     }
 
     // The number of the last instruction at an address, 0 where there is none.
-    pub(crate) fn number_at(&self, assembled: &Assembled, at: u32) -> u32
+    pub(crate) fn statement_number(&self, assembled: &Assembled, at: u32) -> u32
         requires { HasTables (placed_texts assembled.now) self.now }
         ensures { result ≡ statement_number (placed_texts assembled.now) at }
     {
@@ -210,7 +210,7 @@ fn put(table: &mut Vec<u32>, at: usize, number: u32)
 
 // Fills the table of the numbers of statements.
 fn fill_numbers(numbers: &mut Vec<u32>, assembled: &Assembled)
-    ensures { AreNumbers (placed_texts assembled.now) numbers.new.items }
+    ensures { AreNumbersByAddress (placed_texts assembled.now) numbers.new.items }
 {
     numbers.fill(0);
     let mut number = 0;
@@ -227,7 +227,7 @@ fn fill_numbers(numbers: &mut Vec<u32>, assembled: &Assembled)
 fn is_at(assembled: &Assembled, statement: u64, ir: u32) -> bool
     ensures { result ≡ is_at ir (statement_address (placed_texts assembled.now) statement) }
 {
-    match address_of(assembled, statement) {
+    match statement_address(assembled, statement) {
         Some(address) => address == u64::from(ir),
         None => false,
     }
@@ -245,7 +245,7 @@ fn instruction_address(placed: &Placed) -> Option<u64>
 }
 
 // The address of a statement, where it is an instruction; the first statement is 1.
-fn address_of(assembled: &Assembled, statement: u64) -> Option<u64>
+fn statement_address(assembled: &Assembled, statement: u64) -> Option<u64>
     ensures { result ≡ statement_address (placed_texts assembled.now) statement }
 {
     let place = usize::try_from(statement.checked_sub(1)?).ok()?;

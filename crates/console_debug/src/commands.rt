@@ -1,7 +1,7 @@
 // The debugger's commands.
 // Source: this project's own.
 ghost use Rattle.std.specs.Prelude.{◌≡◌, [], All, IfOk, IfSome, count_by};
-ghost use Rattle.console_debug.specs.CommandLists.{Reads, IsCommand, HasRoom, breakpoints, command_list, fault_of};
+ghost use Rattle.console_debug.specs.CommandLists.{ReadsAsCommands, IsCommand, HasBreakRoom, breakpoints, command_list, command_fault_of};
 ghost use Rattle.console_debug.specs.Grammar.{command_of, is_break};
 ghost use Rattle.console_debug.specs.declared.commands.CommandFault.TheVariants.{Memory};
 
@@ -66,7 +66,7 @@ impl From<AllocError> for CommandFault {
 }
 
 impl From<LineFault> for CommandFault {
-    ghost from_gives = { λ fault e. e ≡ fault_of fault };
+    ghost from_gives = { λ fault e. e ≡ command_fault_of fault };
 
     fn from(fault: LineFault) -> Self {
         match fault {
@@ -114,10 +114,10 @@ impl Commands {
     ///
     /// The errors are the first line outside this grammar, by its number, and want of memory for the commands and that room.
     pub fn read(alloc: Global, bytes: &[u8], positions: u32) -> Result<Commands, CommandFault>
-        ensures lines { Reads positions bytes.now result }
+        ensures lines { ReadsAsCommands positions bytes.now result }
         ensures fits { IfOk result (λ commands. All (IsCommand positions) (command_list commands)) }
         ensures none_set { IfOk result (λ commands. breakpoints commands ≡ []) }
-        ensures room { IfOk result HasRoom }
+        ensures room { IfOk result HasBreakRoom }
     {
         let list = read_lines(alloc, &CommandGrammar { positions }, bytes)?;
         let breaks = Breaks::with_room(alloc, count_breaks(&list), positions)?;

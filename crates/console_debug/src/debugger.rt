@@ -9,11 +9,11 @@ ghost use Rattle.operator_script.specs.Scripts.{IsLine, lines_left};
 ghost use Rattle.operator_script.specs.Run.{moment};
 ghost use Rattle.sps_listing.specs.Listing.{placed_texts};
 ghost use Rattle.console_debug.specs.Breakpoints.{HasTables, HasRoomIn, HasSameRoom, set_now};
-ghost use Rattle.console_debug.specs.CommandLists.{IsCommand, HasRoom, breakpoints, command_list};
+ghost use Rattle.console_debug.specs.CommandLists.{IsCommand, HasBreakRoom, breakpoints, command_list};
 ghost use Rattle.console_debug.specs.Grammar.{break_count, is_break, most_shown};
 ghost use Rattle.console_debug.specs.Session as does;
 ghost use Rattle.console_debug.specs.Lines.{show_line};
-ghost use Rattle.console_debug.specs.Carries.{Carries, IsReadyFor, IsSameDebugger, Sets, marks, debugger_state_of};
+ghost use Rattle.console_debug.specs.Carries.{CarriesPart, IsReadyFor, IsSameDebugger, Sets, marks, debugger_state_of};
 ghost use Rattle.console_debug.specs.Debugs.{Debugs, task, without_count};
 
 use crate::breaks::Breaks;
@@ -80,14 +80,14 @@ pub fn session<const M: u32, H: Host>(
     requires mode { is_faulted machine.old.mode ≡ false }
     requires lines { All (IsLine (size M)) (lines_left script.old) }
     requires fits { All (IsCommand (size M)) (command_list commands.old) }
-    requires room { HasRoom commands.old }
+    requires room { HasBreakRoom commands.old }
     requires empty { rewind.old ≡ [] }
     ensures does { let given = task limit (placed_texts assembled.now) (command_list commands.old) in
         let before = moment M machine.old script.old 0 (H.seen host.old) in
         let after = without_count M machine.new script.new (H.seen host.new) in
         Debugs M given before after (breakpoints commands.new) result }
     ensures kept { command_list commands.new ≡ command_list commands.old }
-    ensures room { HasRoom commands.new }
+    ensures room { HasBreakRoom commands.new }
 {
     commands.breaks.clear_all(assembled);
     rewind.keep(machine, 0);
@@ -137,7 +137,7 @@ impl<const M: u32> Debugger<'_, '_, '_, '_, M> {
         ensures same { IsSameDebugger M self.old self.new }
         ensures carries { let before = debugger_state_of M self.old (H.seen host.old) in
             let after = debugger_state_of M self.new (H.seen host.new) in
-            Carries M self.old.cursor.run.limit (placed_texts self.old.assembled.now) (does.session_of list.now) before after result }
+            CarriesPart M self.old.cursor.run.limit (placed_texts self.old.assembled.now) (does.session_of list.now) before after result }
         ensures len { vec_len self.new.breaks.now.log ≤ vec_len self.old.breaks.now.log + count_by is_break list.now }
         ensures room { HasSameRoom self.old.breaks.now self.new.breaks.now }
     {
@@ -160,7 +160,7 @@ impl<const M: u32> Debugger<'_, '_, '_, '_, M> {
         ensures same { IsSameDebugger M self.old self.new }
         ensures carries { let before = debugger_state_of M self.old (H.seen host.old) in
             let after = debugger_state_of M self.new (H.seen host.new) in
-            Carries M self.old.cursor.run.limit (placed_texts self.old.assembled.now) (does.session_after command) before after result }
+            CarriesPart M self.old.cursor.run.limit (placed_texts self.old.assembled.now) (does.session_after command) before after result }
         ensures tables { HasTables (placed_texts self.old.assembled.now) self.new.breaks.now }
         ensures len { vec_len self.new.breaks.now.log ≤ vec_len self.old.breaks.now.log + break_count command }
         ensures room { HasSameRoom self.old.breaks.now self.new.breaks.now }

@@ -3,7 +3,7 @@ ghost use Rattle.std.specs.Prelude.{◌≡◌, ◌<◌, ℕ, IfSome, List, true}
 ghost use Rattle.sps_listing.specs.Listing.{placed_texts};
 ghost use Rattle.sps_pass_two.specs.Assembled.{PlacedText};
 ghost use Rattle.console_debug.specs.Breakpoints.{HasTables, set_now};
-ghost use Rattle.console_debug.specs.Carries.{Carries, StepsOver, debugger_state, step_on};
+ghost use Rattle.console_debug.specs.Carries.{CarriesPart, StepsOver, debugger_state, step_on};
 ghost use Rattle.console_debug.specs.Session as does;
 ghost use Rattle.console_debug.specs.CursorStates.{IsFit, IsSameCursor, IsStepAhead, cursor_state_of};
 
@@ -27,12 +27,12 @@ impl<const M: u32> Cursor<'_, '_, M> {
         ensures same { IsSameCursor M self.old self.new }
         ensures carries { let before = debugger_state M (cursor_state_of M self.old (H.seen host.old)) (set_now breaks.now) in
             let after = debugger_state M (cursor_state_of M self.new (H.seen host.new)) (set_now breaks.now) in
-            Carries M self.old.run.limit (placed_texts assembled.now) does.go before after result }
+            CarriesPart M self.old.run.limit (placed_texts assembled.now) does.go before after result }
     {
         match self.to_stop(assembled, breaks, host) {
             None => {
                 let ir = self.run.machine.regs.ir;
-                let line = break_line(breaks.number_at(assembled, ir), ir, self.run.steps);
+                let line = break_line(breaks.statement_number(assembled, ir), ir, self.run.steps);
                 write_all(host, Unit::Report, line.as_bytes())
             }
             Some(how) => match how {
@@ -52,7 +52,7 @@ impl<const M: u32> Cursor<'_, '_, M> {
         ensures carries { (placed : List PlacedText) (breaks : List ℕ) →
             let before = debugger_state M (cursor_state_of M self.old (H.seen host.old)) breaks in
             let after = debugger_state M (cursor_state_of M self.new (H.seen host.new)) breaks in
-            Carries M self.old.run.limit placed (does.steps count) before after result }
+            CarriesPart M self.old.run.limit placed (does.steps count) before after result }
     {
         let left = match self.step_kept(count, host) {
             Some(left) => left,
@@ -123,7 +123,7 @@ impl<const M: u32> Cursor<'_, '_, M> {
         ensures carries { (placed : List PlacedText) (breaks : List ℕ) →
             let before = debugger_state M (cursor_state_of M self.old (H.seen host.old)) breaks in
             let after = debugger_state M (cursor_state_of M self.new (H.seen host.new)) breaks in
-            Carries M self.old.run.limit placed step_on before after result }
+            CarriesPart M self.old.run.limit placed step_on before after result }
     {
         let line = at_line(self.run.machine.regs.ir, self.run.steps);
         match write_all(host, Unit::Report, line.as_bytes()) {
@@ -146,7 +146,7 @@ impl<const M: u32> Cursor<'_, '_, M> {
         ensures carries { (placed : List PlacedText) (breaks : List ℕ) →
             let before = debugger_state M (cursor_state_of M self.old (H.seen host.old)) breaks in
             let after = debugger_state M (cursor_state_of M self.new (H.seen host.new)) breaks in
-            Carries M self.old.run.limit placed (does.back count) before after result }
+            CarriesPart M self.old.run.limit placed (does.back count) before after result }
     {
         if self.go_back(count) {
             let place = at_line(self.run.machine.regs.ir, self.run.steps);

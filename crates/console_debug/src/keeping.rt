@@ -1,7 +1,7 @@
 // How the place behind a step is kept.
 ghost use Rattle.std.specs.Prelude.{◌≡◌, ◌<◌, IfSome, List, ℕ, length};
 ghost use Rattle.digit_core.specs.Size.{size};
-ghost use Rattle.cpu_step.specs.Stores.{IsBelow, StoresWithin};
+ghost use Rattle.cpu_step.specs.Stores.{StoresBelow, StoresWithin};
 ghost use Rattle.rewind_log.specs.Kept.{places_with, place_of_machine, newest};
 ghost use Rattle.console_debug.specs.CursorStates.{AreStoredWords};
 
@@ -18,7 +18,7 @@ pub(crate) fn keep_step<const M: u32>(
     stores: Stores,
 )
     requires some { 0 < length rewind.old }
-    requires below { IsBelow stores (size M) }
+    requires below { StoresBelow stores (size M) }
     requires within { IfSome (newest rewind.old) (λ k. StoresWithin stores k.core machine.now.core) }
     ensures { rewind.new ≡ places_with rewind.old (place_of_machine M machine.now steps) }
 {
@@ -32,7 +32,7 @@ pub(crate) fn keep_step<const M: u32>(
 // None where nothing is known of these cells.
 #[inline]
 fn stored_words<const M: u32>(core: &Core<M>, stores: Stores) -> Option<(u32, u32)>
-    requires { IsBelow stores (size M) }
+    requires { StoresBelow stores (size M) }
     ensures { (before : List ℕ) → StoresWithin stores before core.now
         → IfSome result (λ words. AreStoredWords M before core.now words.0 words.1) }
 {

@@ -14,21 +14,21 @@ use outside_io::Host;
 use sps_pass_two::Assembled;
 
 // Whether a machine runs at a breakpoint.
-fn is_at_break<const M: u32>(run: &Run<M>, assembled: &Assembled, breaks: &Breaks) -> bool
+fn stands_at_break<const M: u32>(run: &Run<M>, assembled: &Assembled, breaks: &Breaks) -> bool
     requires { HasTables (placed_texts assembled.now) breaks.now }
     ensures { let machine = run.now.machine.now in
         result ≡ is_at_break (placed_texts assembled.now) (set_now breaks.now) machine.mode machine.regs.ir }
 {
-    runs_at_break(assembled, breaks, run.machine.mode, run.machine.regs.ir)
+    is_at_break(assembled, breaks, run.machine.mode, run.machine.regs.ir)
 }
 
 // Whether a machine that is in this mode runs at a breakpoint.
-fn runs_at_break(assembled: &Assembled, breaks: &Breaks, mode: Mode, ir: u32) -> bool
+fn is_at_break(assembled: &Assembled, breaks: &Breaks, mode: Mode, ir: u32) -> bool
     requires { HasTables (placed_texts assembled.now) breaks.now }
     ensures { result ≡ is_at_break (placed_texts assembled.now) (set_now breaks.now) mode ir }
 {
     match mode {
-        Mode::Running => breaks.has(assembled, ir),
+        Mode::Running => breaks.has_break(assembled, ir),
         _ => false,
     }
 }
@@ -55,7 +55,7 @@ impl<const M: u32> Cursor<'_, '_, M> {
             match self.advance(host) {
                 TurnEnd::Acted => {}
                 TurnEnd::Stepped => {
-                    if is_at_break(&self.run, assembled, breaks) {
+                    if stands_at_break(&self.run, assembled, breaks) {
                         return None;
                     }
                 }
@@ -100,7 +100,7 @@ impl<const M: u32> Cursor<'_, '_, M> {
         ensures { IfSome (slice_get self.now.rewind.now i)
             (λ k. result ≡ is_at_break (placed_texts assembled.now) (set_now breaks.now) k.mode k.regs.ir) }
     {
-        runs_at_break(
+        is_at_break(
             assembled,
             breaks,
             self.rewind.mode_at(i),

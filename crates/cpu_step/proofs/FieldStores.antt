@@ -6,7 +6,7 @@ use Rattle.std.proofs.lemmas.Bool.Decides.{nat_tests}
 use Rattle.std.proofs.lemmas.List.{get_or-set_other, get_or-set_same}
 use lib.Count.{ones}
 use Rattle.digit_core.specs.declared.Digit.{Digit}
-use Rattle.digit_core.specs.Cell.{IsGood, is_value, value_in, digit_of_cell, read_cell, cell, store, has_flag}
+use Rattle.digit_core.specs.Cell.{IsGood, is_cell_value, value_in, digit_of_cell, read_cell, cell, store, has_flag}
 use Rattle.digit_core.specs.declared.CellFault.{CellFault}
 use Rattle.digit_core.specs.declared.CellFault.TheVariants.{EvenParity, BadValue}
 use Rattle.addr_indirect.specs.declared.Stop.TheVariants.{Address}
@@ -25,13 +25,13 @@ pub record Sinks (core new : List ℕ) (p : ℕ) (first : Bool) : Type 0 where
   pub below : (a b : ℕ) → a < b → b < p → (first ≡ true → suc b ≢ p) → has_flag (get_or new b 0) ≡ true → get_or new a 0 ≡ get_or core a 0
 
 -- the flag of a digit's cell
-pub below_16 : (v : ℕ) → IsTrue (is_value v) → v < 16
+pub below_16 : (v : ℕ) → IsTrue (is_cell_value v) → v < 16
 below_16 v good = grind (arith, nat_tests)
 
-flag_at : (flag : Bool) (v : ℕ) → v < 16 → (if is_value v then has_flag (cell (record { flag = flag; value = v })) else flag) ≡ flag
+flag_at : (flag : Bool) (v : ℕ) → v < 16 → (if is_cell_value v then has_flag (cell (record { flag = flag; value = v })) else flag) ≡ flag
 unfolding cell ones
-flag_at true v below = same_below (λ v. if is_value v then has_flag (cell (record { flag = true; value = v })) else true) (λ v. true) 16 v true refl below
-flag_at false v below = same_below (λ v. if is_value v then has_flag (cell (record { flag = false; value = v })) else false) (λ v. false) 16 v true refl below
+flag_at true v below = same_below (λ v. if is_cell_value v then has_flag (cell (record { flag = true; value = v })) else true) (λ v. true) 16 v true refl below
+flag_at false v below = same_below (λ v. if is_cell_value v then has_flag (cell (record { flag = false; value = v })) else false) (λ v. false) 16 v true refl below
 
 pub cell_flag : (d : Digit) → IsGood d → has_flag (cell d) ≡ d.flag
 cell_flag d good = ap (λ (b : Bool). if b then has_flag (cell d) else d.flag) (sym good) ∙ flag_at d.flag d.value (below_16 d.value good)
@@ -108,9 +108,9 @@ field_sinks reads core (suc p) (suc q) first inside =
 -- a digit that was read is good
 good_read : (c : ℕ) (d : Digit) → read_cell c ≡ Ok d → IsGood d
 unfolding read_cell
-good_read c d is = by_parity (count_ones c % 2 == 0) (is_value (value_in c)) refl is
+good_read c d is = by_parity (count_ones c % 2 == 0) (is_cell_value (value_in c)) refl is
   where
-    by_parity : (even value : Bool) → is_value (value_in c) ≡ value → (if even then Err EvenParity else if value then Ok (digit_of_cell c) else Err BadValue) ≡ Ok d → IsGood d
+    by_parity : (even value : Bool) → is_cell_value (value_in c) ≡ value → (if even then Err EvenParity else if value then Ok (digit_of_cell c) else Err BadValue) ≡ Ok d → IsGood d
     by_parity true value is_it is = cc
     by_parity false true is_it is = let same : digit_of_cell c ≡ d = cc in subst IsGood same is_it
     by_parity false false is_it is = cc

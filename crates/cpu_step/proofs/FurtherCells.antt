@@ -6,13 +6,13 @@ use Rattle.std.proofs.lemmas.Bool.{cases_lt}
 use Rattle.digit_core.specs.declared.Digit.{Digit}
 use Rattle.digit_core.specs.Packed.{six, HasCells}
 use Rattle.addr_indirect.specs.Reading.{read_at, decimal_at}
-use Rattle.addr_indirect.specs.Operand.{number, field, chain}
+use Rattle.addr_indirect.specs.Operand.{number_down, field, chain}
 use Rattle.addr_indirect.specs.declared.Stop.{Stop}
 use Rattle.addr_indirect.specs.Steps.{◌>>=◌}
 use Rattle.addr_indirect.proofs.Chains.{field_ends, field_on}
 use Rattle.addr_indirect.proofs.Windows.{field_is}
 use Rattle.cpu_step.specs.Further.{HasNamed, LeadsTo}
-use Rattle.cpu_step.proofs.Placed.{kept}
+use Rattle.cpu_step.proofs.MemoEntries.{kept}
 
 -- a word of core has the cells that it has under a mask
 pub named_of : (core : List ℕ) (i w mask x : ℕ) → HasCells w core (10 * i) 10 → bit_and w mask ≡ x → HasNamed core i mask x
@@ -48,7 +48,7 @@ module _ (core other : List ℕ) (long : length other ≡ length core) (u i t : 
   same_decimal a low_end high_end = rw (long, same_cell a low_end high_end) refl
 
   same_field : field other u ≡ field core u
-  unfolding field number
+  unfolding field number_down
   same_field =
       rw (
         same_decimal u (omega arith) (omega arith),
@@ -63,15 +63,15 @@ module _ (core other : List ℕ) (long : length other ≡ length core) (u i t : 
 
 -- a field by its units digit, for the flag, and by the number of its digits
 module _ (core : List ℕ) (u v : ℕ) (d : Digit) (units : decimal_at core u ≡ Ok d) where
-  by_above : (r : Result ℕ Stop) → number core (u - 1) 4 ≡ r → (r >>= (λ above. Ok (d.value + 10 * above))) ≡ Ok v → field core u ≡ Ok (record { number = v; flagged = d.flag })
+  by_above : (r : Result ℕ Stop) → number_down core (u - 1) 4 ≡ r → (r >>= (λ above. Ok (d.value + 10 * above))) ≡ Ok v → field core u ≡ Ok (record { number = v; flagged = d.flag })
   by_above (Ok above) others all = let e : d.value + 10 * above ≡ v = cc in field_is core u v above d units others (sym e)
   by_above (Err why) others all = cc
 
-  pub field_of : number core u 5 ≡ Ok v → field core u ≡ Ok (record { number = v; flagged = d.flag })
-  unfolding number
-  field_of all = by_above (number core (u - 1) 4) refl (rw units at all)
+  pub field_of : number_down core u 5 ≡ Ok v → field core u ≡ Ok (record { number = v; flagged = d.flag })
+  unfolding number_down
+  field_of all = by_above (number_down core (u - 1) 4) refl (rw units at all)
 
-  pub leads_of : number core u 5 ≡ Ok v → v < length core → (d.flag ≡ true → 4 ≤ v) → LeadsTo core u v d.flag
+  pub leads_of : number_down core u 5 ≡ Ok v → v < length core → (d.flag ≡ true → 4 ≤ v) → LeadsTo core u v d.flag
   leads_of all inside room = record { reads = field_of all; inside = inside; room = room }
 
 -- a number that is not below 4

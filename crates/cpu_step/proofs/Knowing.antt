@@ -30,9 +30,9 @@ use Rattle.instruction_table.specs.Table.{instruction_of, op_of}
 use Rattle.cpu_step.specs.Rows.{row_of_op, with_columns, row_by_table, instruction_row, row_by, row_of_code, takes_odd}
 use Rattle.cpu_step.specs.Checks.{wants_odd}
 use Rattle.cpu_step.specs.Act.{operands}
-use Rattle.branch_ops.specs.Fields.{number_in, fields_used, operands_at, HoldOperands}
+use Rattle.branch_ops.specs.Fields.{part_number, fields_used, operands_at, HoldOperands}
 use Rattle.cpu_step.specs.Known.{instr_at, AreTwelve, AreSettled, IsRow, IsB, IsKnown, found_with, uses_in, uses_at, code_in, ComesToRow, ComesToB, ComesTo}
-use Rattle.branch_ops.proofs.Fielded.{fields_hold}
+use Rattle.branch_ops.proofs.FieldOperands.{fields_hold}
 use Rattle.cpu_step.proofs.TableRows.{uses_odd, b_columns}
 
 -- a row is found by the digits alone, wherever they stand
@@ -98,7 +98,7 @@ module _ (m low high : ℕ) (good : TwelveAreGood low high) (core : List ℕ) (i
 
   -- fields are the same wherever the cells stand
   same_fields : (u : Uses) (stores : MayStore) → fields_used u stores (instr_at 0 low high) ≡ fields_used u stores (instr_at ir low high)
-  unfolding number_in
+  unfolding part_number
   same_fields Both stores = refl
   same_fields u stores = refl
 

@@ -18,7 +18,7 @@ use Rattle.cpu_step.specs.Step.{instruction, check_stop, state_after_check, sett
 use Rattle.cpu_step.specs.Machine.{state_of, is_read, is_written}
 use Rattle.cpu_step.specs.Load.{state_for_load, load_trace, load_key, load_cut}
 use Rattle.cpu_step.specs.Outside.{outside, all_outside, load_events}
-use Rattle.cpu_step.proofs.Exact.{state_is, state_pack}
+use Rattle.cpu_step.proofs.ExactCards.{state_is, state_pack}
 use Rattle.cpu_step.proofs.Texts.{same_written}
 use Rattle.cpu_step.proofs.OwnUnits.{IsOwn, instruction_own, load_own}
 

@@ -93,16 +93,16 @@ console_own console.Tab p s = each_own (Written units.Typed) (λ b. refl) (contr
 console_own console.Dump p s = each_own (Written units.Typed) (λ b. refl) (write_dump s.core p).effects
 console_own console.WriteNumeric p s = each_own (Written units.Typed) (λ b. refl) (write_numeric s.core p).effects
 console_own console.WriteAlpha p s = each_own (of_output units.Typed) (output_own units.Typed refl) (write_alphameric s.core p).effects
-console_own console.ReadNumeric p s = each_own of_keys keys_own (keyboard.read_numeric (length s.core) p s.keys).effects
-console_own console.ReadAlpha p s = each_own of_keys keys_own (keyboard.read_alphameric (length s.core) p s.keys).effects
+console_own console.ReadNumeric p s = each_own of_keys keys_own (keyboard.read_line_numeric (length s.core) p s.keys).effects
+console_own console.ReadAlpha p s = each_own of_keys keys_own (keyboard.read_line_alphameric (length s.core) p s.keys).effects
 
 card_own : (r : CardRow) (p : ℕ) (s : State) → AreOwn (on_cards r p s)
 unfolding on_cards
 card_own cards.Dump p s = each_own (Written units.Punched) (λ b. refl) (punch_dump s.core p).effects
 card_own cards.PunchNumeric p s = each_own (Written units.Punched) (λ b. refl) (punch_numeric s.core p).effects
 card_own cards.PunchAlpha p s = each_own (of_output units.Punched) (output_own units.Punched refl) (punch_alphameric s.core p).effects
-card_own cards.ReadNumeric p s = each_own of_cards cards_own (reader.read_numeric (length s.core) p s.hopper).effects
-card_own cards.ReadAlpha p s = each_own of_cards cards_own (reader.read_alphameric (length s.core) p s.hopper).effects
+card_own cards.ReadNumeric p s = each_own of_cards cards_own (reader.read_card_numeric (length s.core) p s.hopper).effects
+card_own cards.ReadAlpha p s = each_own of_cards cards_own (reader.read_card_alphameric (length s.core) p s.hopper).effects
 
 disks_own : (r : DiskRow) (p : ℕ) (s : State) → AreOwn (on_disk r p s)
 unfolding on_disk
@@ -133,4 +133,4 @@ instruction_own s =
 
 -- nor does the Load key write any
 pub load_own : (s : State) → All IsOwn (load_trace (state_for_load s)).effects
-load_own s = each_own of_cards cards_own (reader.read_numeric (length s.core) 0 s.hopper).effects
+load_own s = each_own of_cards cards_own (reader.read_card_numeric (length s.core) 0 s.hopper).effects

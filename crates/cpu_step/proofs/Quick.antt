@@ -18,8 +18,8 @@ use Rattle.traces.specs.Break.{Break}
 use Rattle.cpu_step.specs.declared.machine.Outcome.{Outcome}
 use Rattle.cpu_step.specs.declared.machine.Outcome.TheVariants as outcome
 use Rattle.cpu_step.specs.Effects.{Effect}
-use Rattle.cpu_step.specs.Machine.{Shows, Frames, Did, Acts}
-use Rattle.cpu_step.proofs.Shown.{row_acts, operands_act}
+use Rattle.cpu_step.specs.Machine.{Shows, Frames, DidAction, Acts}
+use Rattle.cpu_step.proofs.ShownStates.{row_acts, operands_act}
 
 module _ (m : ℕ) (machine : Machine m) (w : World) (s : State) (shown : Shows m machine w s) (low high : ℕ) where
   -- a row
@@ -48,7 +48,7 @@ module _ (m : ℕ) (t : State → Trace Effect Next Break) (old new : Machine m)
   frames_old : Frames m with_memo new before later → Frames m old new before later
   frames_old f = record { later = f.later; keeps = f.keeps; told = f.told; told_keys = f.told_keys; told_sectors = f.told_sectors; own = f.own; cards = f.cards; lines = f.lines }
 
-  did_old : (r : Result Next Break) → Did m t with_memo new before later r → Did m t old new before later r
+  did_old : (r : Result Next Break) → DidAction m t with_memo new before later r → DidAction m t old new before later r
   did_old r d = record { state = d.state; shown = shows_old _ _ d.shown; answers = d.answers; made = d.made; frames = frames_old d.frames }
 
   pub memo_apart : (o : Outcome) → Acts m t with_memo new before later o → Acts m t old new before later o

@@ -6,7 +6,7 @@ use Rattle.std.proofs.lemmas.List.{get_or-set_other, get_or-set_same}
 use lib.Count.{ones}
 use Rattle.digit_core.specs.declared.Digit.{Digit}
 use Rattle.digit_core.specs.declared.TheConstants.{RECORD_MARK}
-use Rattle.digit_core.specs.Cell.{IsGood, is_value, cell, store}
+use Rattle.digit_core.specs.Cell.{IsGood, is_cell_value, cell, store}
 use Rattle.digit_core.specs.Search.{has_mark}
 use Rattle.digit_core.proofs.Below.{same_below}
 use Rattle.addr_indirect.specs.declared.Stop.{Stop}
@@ -23,10 +23,10 @@ pub record Rises (core new : List ℕ) (p : ℕ) : Type 0 where
   pub above : (a b : ℕ) → p ≤ b → b < a → has_mark (get_or new b 0) ≡ true → get_or new a 0 ≡ get_or core a 0
 
 -- the record mark of a digit's cell
-mark_at : (flag : Bool) (v : ℕ) → v < 16 → (if is_value v then has_mark (cell (record { flag = flag; value = v })) else (v == RECORD_MARK)) ≡ (v == RECORD_MARK)
+mark_at : (flag : Bool) (v : ℕ) → v < 16 → (if is_cell_value v then has_mark (cell (record { flag = flag; value = v })) else (v == RECORD_MARK)) ≡ (v == RECORD_MARK)
 unfolding cell ones
-mark_at true v below = same_below (λ v. if is_value v then has_mark (cell (record { flag = true; value = v })) else (v == RECORD_MARK)) (λ v. v == RECORD_MARK) 16 v true refl below
-mark_at false v below = same_below (λ v. if is_value v then has_mark (cell (record { flag = false; value = v })) else (v == RECORD_MARK)) (λ v. v == RECORD_MARK) 16 v true refl below
+mark_at true v below = same_below (λ v. if is_cell_value v then has_mark (cell (record { flag = true; value = v })) else (v == RECORD_MARK)) (λ v. v == RECORD_MARK) 16 v true refl below
+mark_at false v below = same_below (λ v. if is_cell_value v then has_mark (cell (record { flag = false; value = v })) else (v == RECORD_MARK)) (λ v. v == RECORD_MARK) 16 v true refl below
 
 cell_mark : (d : Digit) → IsGood d → has_mark (cell d) ≡ (d.value == RECORD_MARK)
 cell_mark d good = ap (λ (b : Bool). if b then has_mark (cell d) else (d.value == RECORD_MARK)) (sym good) ∙ mark_at d.flag d.value (below_16 d.value good)

@@ -23,7 +23,7 @@ use Rattle.cpu_step.specs.Step.{check_stop, state_after_check, settle, instructi
 use Rattle.cpu_step.specs.Known.{found_with, uses_at, ComesToRow}
 use Rattle.cpu_step.specs.Rows.{instruction_row}
 use Rattle.addr_indirect.specs.Fetch.{fetch}
-use Rattle.cpu_step.specs.Stores.{stores_at, KeepsOutside, StoresWithin, StepStores, IsBelow, stores_by}
+use Rattle.cpu_step.specs.Stores.{stores_at, KeepsOutside, StoresWithin, StepStores, StoresBelow, stores_by}
 use Rattle.cpu_step.proofs.TableRows.{uses_odd, found_keeps}
 use Rattle.cpu_step.proofs.Knowing.{odd_wanted}
 
@@ -96,11 +96,11 @@ module _ (core : List ℕ) (ir : ℕ) where
           (found_keeps i f is o s (rw core_is first) (rw core_is second) (λ odd. odd_wanted core ir o f.uses works (uses_odd i f is odd)))
 
 -- an address in it is below the operands' bound
-below_down : (p n : ℕ) → p < n → (b : Bool) → IsBelow (if b then kinds.Nothing else kinds.Down (p - 1)) n
+below_down : (p n : ℕ) → p < n → (b : Bool) → StoresBelow (if b then kinds.Nothing else kinds.Down (p - 1)) n
 below_down p n below true = tt
 below_down p n below false = omega (arith, below)
 
-pub stores_below : (stores : MayStore) (o : Operands) (n : ℕ) → o.p < n → o.q < n → IsBelow (stores_by stores o) n
+pub stores_below : (stores : MayStore) (o : Operands) (n : ℕ) → o.p < n → o.q < n → StoresBelow (stores_by stores o) n
 stores_below column.Nothing o n first second = tt
 stores_below column.Cell o n first second = first
 stores_below column.Down o n first second = first

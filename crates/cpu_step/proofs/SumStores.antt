@@ -7,7 +7,7 @@ use Rattle.std.proofs.lemmas.List.{get_or-set_other, get_or-set_same}
 use Rattle.digit_core.specs.declared.Digit.{Digit}
 use Rattle.digit_core.specs.declared.CellFault.{CellFault}
 use Rattle.digit_core.specs.declared.CellFault.TheVariants.{EvenParity, BadValue}
-use Rattle.digit_core.specs.Cell.{IsGood, is_value, value_in, digit_of_cell, read_cell, cell, store, has_flag}
+use Rattle.digit_core.specs.Cell.{IsGood, is_cell_value, value_in, digit_of_cell, read_cell, cell, store, has_flag}
 use Rattle.addr_indirect.specs.declared.Stop.{Stop}
 use Rattle.addr_indirect.specs.declared.Stop.TheVariants.{Address, Digit as BadDigit}
 use Rattle.addr_indirect.specs.Steps.{◌>>=◌ as ◌>>=r◌}
@@ -17,7 +17,7 @@ use Rattle.traces.specs.Stored.{Stored, stores, core_after, then_over}
 use Rattle.table_arith.specs.declared.Cycle.{Cycle}
 use Rattle.table_arith.specs.declared.Passed.{Passed}
 use Rattle.table_arith.specs.Cycle.{add_cycle, look_up, addend}
-use Rattle.table_arith.specs.Pass.{pass, first_pass, before_cycles, second_pass, second_cycles, q_digit, goes_on, next, new_digit, store_if, core_after_store_if}
+use Rattle.table_arith.specs.Pass.{pass, first_pass, before_cycles, second_pass, second_cycles, q_digit, goes_on, passed_after, new_digit, store_if, core_after_store_if}
 use Rattle.table_arith.specs.declared.Kind.{Kind}
 use Rattle.table_arith.specs.declared.Shown.{Shown}
 use Rattle.table_arith.specs.Sum.{sum, sum_passes, sum_completion, complements, falls_below, overflows, turn_sign}
@@ -39,7 +39,7 @@ plain_none core p first = record { sinks = sinks_none core p first; flags = λ b
 -- the flag of a cell that was read
 read_flag : (c : ℕ) (d : Digit) → read_cell c ≡ Ok d → has_flag c ≡ d.flag
 unfolding read_cell
-read_flag c d is = by_parity (count_ones c % 2 == 0) (is_value (value_in c)) is
+read_flag c d is = by_parity (count_ones c % 2 == 0) (is_cell_value (value_in c)) is
   where
     by_parity : (even value : Bool) → (if even then Err EvenParity else if value then Ok (digit_of_cell c) else Err BadValue) ≡ Ok d → has_flag c ≡ d.flag
     by_parity true value is = cc
@@ -83,43 +83,43 @@ module _ (core : List ℕ) (p : ℕ) (x d : Digit) (inside : p < length core) (g
       no_flag first x on units = grind (arith, on, units)
 
 -- the digit of a cycle is decimal
-decimal_good : (core : List ℕ) (a : ℕ) (d : Digit) → decimal_at core a ≡ Ok d → IsTrue (is_value d.value)
+decimal_good : (core : List ℕ) (a : ℕ) (d : Digit) → decimal_at core a ≡ Ok d → IsTrue (is_cell_value d.value)
 unfolding decimal_at
 decimal_good core a d is = by_read (read_at core a) is
   where
-    by_nine : (e : Digit) (b : Bool) → nat_le e.value 9 ≡ b → (if b then Ok e else Err BadDigit) ≡ Ok d → IsTrue (is_value d.value)
-    by_nine e true nine is = let same : e ≡ d = cc in subst (λ (x : Digit). IsTrue (is_value x.value)) same (grind (arith, nat_tests, nine))
+    by_nine : (e : Digit) (b : Bool) → nat_le e.value 9 ≡ b → (if b then Ok e else Err BadDigit) ≡ Ok d → IsTrue (is_cell_value d.value)
+    by_nine e true nine is = let same : e ≡ d = cc in subst (λ (x : Digit). IsTrue (is_cell_value x.value)) same (grind (arith, nat_tests, nine))
     by_nine e false nine is = cc
 
-    by_read : (r : Result Digit Stop) → (r >>=r (λ e. if nat_le e.value 9 then Ok e else Err BadDigit)) ≡ Ok d → IsTrue (is_value d.value)
+    by_read : (r : Result Digit Stop) → (r >>=r (λ e. if nat_le e.value 9 then Ok e else Err BadDigit)) ≡ Ok d → IsTrue (is_cell_value d.value)
     by_read (Ok e) is = by_nine e (nat_le e.value 9) refl is
     by_read (Err why) is = cc
 
-cycle_good : (core : List ℕ) (x y : ℕ) (complements : Bool) (carry : ℕ) (c : Cycle) → add_cycle core x y complements carry ≡ Ok c → IsTrue (is_value c.digit)
+cycle_good : (core : List ℕ) (x y : ℕ) (complements : Bool) (carry : ℕ) (c : Cycle) → add_cycle core x y complements carry ≡ Ok c → IsTrue (is_cell_value c.digit)
 unfolding add_cycle
 cycle_good core x y complements carry c is = by_nine (nat_lt 9 x || nat_lt 9 y) is
   where
-    by_look : (r : Result Digit Stop) (z : ℕ) → ((d : Digit) → r ≡ Ok d → IsTrue (is_value d.value)) → (r >>=r (λ d. Ok (record { digit = d.value; carry = if d.flag || z == 10 then 1 else 0 }))) ≡ Ok c → IsTrue (is_value c.digit)
-    by_look (Ok d) z good is = let same : record { digit = d.value; carry = if d.flag || z == 10 then 1 else 0 } ≡ c = cc in subst (λ (k : Cycle). IsTrue (is_value k.digit)) same (good d refl)
+    by_look : (r : Result Digit Stop) (z : ℕ) → ((d : Digit) → r ≡ Ok d → IsTrue (is_cell_value d.value)) → (r >>=r (λ d. Ok (record { digit = d.value; carry = if d.flag || z == 10 then 1 else 0 }))) ≡ Ok c → IsTrue (is_cell_value c.digit)
+    by_look (Ok d) z good is = let same : record { digit = d.value; carry = if d.flag || z == 10 then 1 else 0 } ≡ c = cc in subst (λ (k : Cycle). IsTrue (is_cell_value k.digit)) same (good d refl)
     by_look (Err why) z good is = cc
 
-    by_nine : (b : Bool) → (if b then Err BadDigit else look_up core x (addend y complements carry)) ≡ Ok c → IsTrue (is_value c.digit)
+    by_nine : (b : Bool) → (if b then Err BadDigit else look_up core x (addend y complements carry)) ≡ Ok c → IsTrue (is_cell_value c.digit)
     by_nine true is = cc
     by_nine false is = by_look _ (addend y complements carry) (λ d there. decimal_good core _ d there) is
 
 -- THE FIRST PASS
-plain_good : (f : Bool) (c : ℕ) → IsTrue (is_value c) → IsGood (record { flag = f; value = c })
+plain_good : (f : Bool) (c : ℕ) → IsTrue (is_cell_value c) → IsGood (record { flag = f; value = c })
 plain_good f c good = good
 
 module _ (core : List ℕ) (p q : ℕ) (complements first : Bool) (so_far : Passed) (inside : p < length core)
-    (rest : (d : Digit) (y : Digit) (c : Cycle) → SinksPlain (store core p d) (core_after (store core p d) (pass true (store core p d) p (pred q) complements false (next first so_far y c)).effects) p false) where
+    (rest : (d : Digit) (y : Digit) (c : Cycle) → SinksPlain (store core p d) (core_after (store core p d) (pass true (store core p d) p (pred q) complements false (passed_after first so_far y c)).effects) p false) where
   abbrev after_cycle : Digit → Digit → Cycle → Bool → Trace Stored Passed Stop
   after_cycle x y c on =
       store_if true p (new_digit x c)
-      (if on then pass true (core_after_store_if true core p (new_digit x c)) p (pred q) complements false (next first so_far y c)
-      else ends (Ok (next first so_far y c)))
+      (if on then pass true (core_after_store_if true core p (new_digit x c)) p (pred q) complements false (passed_after first so_far y c)
+      else ends (Ok (passed_after first so_far y c)))
 
-  by_on : (x y : Digit) (c : Cycle) → read_at core p ≡ Ok x → IsTrue (is_value c.digit) → (on : Bool) → goes_on first x ≡ on
+  by_on : (x y : Digit) (c : Cycle) → read_at core p ≡ Ok x → IsTrue (is_cell_value c.digit) → (on : Bool) → goes_on first x ≡ on
       → SinksPlain core (core_after core (after_cycle x y c on).effects) (suc p) first
   by_on x y c read good true is = plain_more core p x (new_digit x c) inside (plain_good x.flag c.digit good) read refl first _ is (rest (new_digit x c) y c)
   by_on x y c read good false is = plain_last core p x (new_digit x c) inside (plain_good x.flag c.digit good) read refl first
@@ -145,7 +145,7 @@ unfolding pass
 pass_sinks core zero q complements first so_far inside = plain_none core zero first
 pass_sinks core (suc p) q complements first so_far inside =
     by_x core p q complements first so_far inside
-    (λ d y c. pass_sinks (store core p d) p (pred q) complements false (next first so_far y c) (omega (arith, inside, length-set core p (cell d)))) (read_at core p) refl
+    (λ d y c. pass_sinks (store core p d) p (pred q) complements false (passed_after first so_far y c) (omega (arith, inside, length-set core p (cell d)))) (read_at core p) refl
 
 -- THE SECOND PASS
 module _ (core : List ℕ) (p : ℕ) (first : Bool) (carry : ℕ) (all_zero : Bool) (inside : p < length core)
@@ -156,7 +156,7 @@ module _ (core : List ℕ) (p : ℕ) (first : Bool) (carry : ℕ) (all_zero : Bo
       (if on then second_cycles (store core p (new_digit d c)) p false c.carry (all_zero && (c.digit == 0))
       else ends (Ok (all_zero && (c.digit == 0))))
 
-  second_on : (d : Digit) (c : Cycle) → read_at core p ≡ Ok d → IsTrue (is_value c.digit) → (on : Bool) → goes_on first d ≡ on
+  second_on : (d : Digit) (c : Cycle) → read_at core p ≡ Ok d → IsTrue (is_cell_value c.digit) → (on : Bool) → goes_on first d ≡ on
       → SinksPlain core (core_after core (after_second d c on).effects) (suc p) first
   second_on d c read good true is = plain_more core p d (new_digit d c) inside (plain_good d.flag c.digit good) read refl first _ is (rest (new_digit d c) c.carry (all_zero && (c.digit == 0)))
   second_on d c read good false is = plain_last core p d (new_digit d c) inside (plain_good d.flag c.digit good) read refl first

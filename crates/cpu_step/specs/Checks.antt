@@ -10,7 +10,7 @@ use Rattle.addr_indirect.specs.declared.Stop.TheVariants.{Parity, Value, Overflo
 use Rattle.addr_indirect.specs.declared.Instr.{Instr}
 use Rattle.addr_indirect.specs.Steps.{◌>>=◌}
 use Rattle.addr_indirect.specs.Reading.{read_at, decimal_at}
-use Rattle.addr_indirect.specs.Operand.{number}
+use Rattle.addr_indirect.specs.Operand.{number_down}
 use Rattle.addr_indirect.specs.Operands.{p_operand, q_operand, immediate_q}
 use Rattle.addr_indirect.specs.Fetch.{fetch}
 use Rattle.cpu_step.specs.declared.rows.Found.{Found}
@@ -49,7 +49,7 @@ way_on n (Err why) v = None
 
 -- the units position to which the field of five digits at u leads on
 abbrev pub field_after : List ℕ → ℕ → Option ℕ
-field_after core u = way_on (length core) (decimal_at core u) (number core u 5)
+field_after core u = way_on (length core) (decimal_at core u) (number_down core u 5)
 
 -- the units position of the last field of a chain from u that leads on at most so many times
 unfoldable pub chain_end : ℕ → List ℕ → ℕ → ℕ

@@ -53,12 +53,12 @@ abbrev pub StepStores : List ℕ → ℕ → Stores → Type 0
 StepStores core ir stores = (s : State) → s.core ≡ core → s.regs.ir ≡ ir → StoresWithin stores s.core (step s).core
 
 -- the address in what may be stored is one of n
-abbrev pub IsBelow : Stores → ℕ → Type 0
-IsBelow Nothing n = ⊤
-IsBelow (Cell p) n = p < n
-IsBelow (Down p) n = p < n
-IsBelow (Up p) n = p < n
-IsBelow Anywhere n = ⊤
+abbrev pub StoresBelow : Stores → ℕ → Type 0
+StoresBelow Nothing n = ⊤
+StoresBelow (Cell p) n = p < n
+StoresBelow (Down p) n = p < n
+StoresBelow (Up p) n = p < n
+StoresBelow Anywhere n = ⊤
 
 -- all that a machine shows is as it was
 abbrev pub ShowsTheSame : (m : ℕ) → Machine m → Machine m → Type 0

@@ -2,12 +2,12 @@
 ghost use Rattle.std.specs.Prelude.{◌≡◌, ◌+◌, ◌<◌, ◌≤◌, length, slice_index, IfOk, IfSome};
 ghost use Rattle.digit_core.specs.Size.{size};
 ghost use Rattle.digit_core.specs.Search.{first_up};
-ghost use Rattle.addr_indirect.specs.Operand.{number};
+ghost use Rattle.addr_indirect.specs.Operand.{number_down};
 ghost use Rattle.cpu_step.specs.Rows.{instruction_row};
 ghost use Rattle.cpu_step.specs.Checks.{action_cell, cell_over_nine, chain_end, check_part, fetched_part, field_after, field_length, first_unread, is_over_nine, nearer, operands_or_part, over_nine_down, over_nine_in_control, over_nine_in_step, p_or_part, p_part, part_of, q_or_part, q_part, q_used, unfetched_cell, wants_odd, worked_part};
 ghost use Rattle.addr_indirect.specs.Fetch.{fetch};
 
-use crate::rows::{Found, InOutRow, Row, row_of};
+use crate::rows::{Found, InOutRow, Row, instruction_row};
 use addr_indirect::{
     Instr, LOWEST_UNITS, Stop, decimal_at, fetch, immediate_q, p_operand, q_operand, read_at,
 };
@@ -112,7 +112,7 @@ fn fetched_part<const M: u32>(core: &Core<M>, why: Stop, ir: u32, i: &Instr) -> 
     requires twelve { length i.now.cells ≡ 12 }
     ensures { result ≡ fetched_part why (instruction_row i.now) core.now ir }
 {
-    match row_of(i) {
+    match instruction_row(i) {
         Ok(found) => worked_part(core, why, ir, found),
         Err(_) => CheckPart::Instruction { cell: ir },
     }
@@ -268,10 +268,10 @@ fn field_after<const M: u32>(core: &Core<M>, u: u32) -> Option<u32>
 }
 
 // The number of the five digits from `u` downwards, `u` the units.
-#[tactic(auto, unfolding(addr_indirect::specs::Operand::number))]
+#[tactic(auto, unfolding(addr_indirect::specs::Operand::number_down))]
 pub(crate) fn five_digits<const M: u32>(core: &Core<M>, u: u32) -> Result<u32, Stop>
     requires { 4 ≤ u }
-    ensures { result ≡ number core.now u 5 }
+    ensures { result ≡ number_down core.now u 5 }
 {
     let a = decimal_at(core, u)?;
     let b = decimal_at(core, u - 1)?;

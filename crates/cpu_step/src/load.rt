@@ -10,7 +10,7 @@ impl<const M: u32> Machine<M> {
     ghost use Rattle.addr_indirect.specs.declared.Stop.{Stop};
     ghost use Rattle.card_unit.specs.declared.reader.CardIo.TheVariants as io;
     ghost use Rattle.cpu_step.specs.Machine.{LoadsKey, ReadsCard};
-    ghost use Rattle.card_unit.specs.Hopper.{own_cards, ReadsOn};
+    ghost use Rattle.card_unit.specs.Hopper.{own_cards, GoesOnReadingCards};
 
     /// The Load key: turns indicators off, sets IR to 00000, reads a card numerically into 00000 to 00079 and lets the machine run.
     ///
@@ -56,7 +56,7 @@ impl<const M: u32> Machine<M> {
         ensures keys { self.new.keys ≡ self.old.keys }
         ensures room { (why : Stop) → result ≡ io.Stop why → size M < p + 80 }
         ensures own { own_cards self.new.hopper ≡ own_cards self.old.hopper }
-        ensures reads_on { ReadsOn self.old.hopper self.new.hopper (H.seen host.old) (H.seen host.new) }
+        ensures reads_on { GoesOnReadingCards self.old.hopper self.new.hopper (H.seen host.old) (H.seen host.new) }
         ensures reads { ReadsCard M p self.old self.new (H.seen host.old) (H.seen host.new) result }
     {
         self.core.size_law();

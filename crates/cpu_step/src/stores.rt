@@ -2,7 +2,7 @@
 ghost use Rattle.std.specs.Prelude.{◌≡◌, ◌+◌, ◌≤◌, length, Ok};
 ghost use Rattle.digit_core.specs.Size.{size};
 ghost use Rattle.addr_indirect.specs.Fetch.{fetch};
-ghost use Rattle.cpu_step.specs.Stores.{IsBelow, StepStores, fetched_stores, stores_at, stores_by};
+ghost use Rattle.cpu_step.specs.Stores.{StoresBelow, StepStores, fetched_stores, stores_at, stores_by};
 
 use crate::machine::Machine;
 use crate::memo::Known;
@@ -44,7 +44,7 @@ impl<const M: u32> Machine<M> {
     pub fn stores(&mut self) -> Stores
         ensures is { result ≡ stores_at self.old.core self.old.regs.ir }
         ensures same { ShowsTheSame M self.old self.new }
-        ensures below { IsBelow result (size M) }
+        ensures below { StoresBelow result (size M) }
         ensures within { StepStores self.old.core self.old.regs.ir result }
     {
         self.core.size_law();
@@ -63,7 +63,7 @@ impl<const M: u32> Machine<M> {
 #[inline(never)]
 fn decoded_stores<const M: u32>(core: &Core<M>, ir: u32) -> Stores
     ensures is { result ≡ stores_at core.now ir }
-    ensures below { IsBelow result (size M) }
+    ensures below { StoresBelow result (size M) }
     ensures within { StepStores core.now ir result }
 {
     match fetch(core, ir) {
@@ -78,7 +78,7 @@ fn fetched_stores<const M: u32>(core: &Core<M>, ir: u32, i: &Instr) -> Stores
     requires twelve { length i.now.cells ≡ 12 }
     requires fetched { fetch core.now ir ≡ Ok i.now }
     ensures is { result ≡ fetched_stores i.now core.now ir }
-    ensures below { IsBelow result (size M) }
+    ensures below { StoresBelow result (size M) }
     ensures within { StepStores core.now ir result }
 {
     core.size_law();

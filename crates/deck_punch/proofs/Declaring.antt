@@ -4,25 +4,25 @@ use Rattle.std.proofs.lemmas.List.{get_or_append_left, get_or-append-add}
 use Rattle.std.proofs.lemmas.Bool.{cases_lt}
 use Rattle.std.proofs.lemmas.Bool.Decides.{nat_tests}
 use Rattle.digit_core.specs.declared.Digit.{Digit}
-use Rattle.sps_pass_two.specs.Image.{Run, digit_at, declared_digit, or_else}
+use Rattle.sps_pass_two.specs.Image.{DigitRun, digit_at, declared_digit, or_else}
 use Rattle.deck_punch.specs.declared.form.DeckForm.{DeckForm}
 use Rattle.deck_punch.specs.Cut.{cut_as, cut_piece_as}
 use Rattle.card_columns.specs.Orders.{nth}
 use Rattle.deck_punch.specs.Cover.{Covers, nothing, segment}
 use Rattle.deck_punch.proofs.Covering.{form_covers}
 
-abbrev pub run : ℕ → List Digit → Run
+abbrev pub run : ℕ → List Digit → DigitRun
 run a ds = record { from = a; digits = ds }
 
-pub below : (g : Run) (a : ℕ) → a < g.from → digit_at g a ≡ None
+pub below : (g : DigitRun) (a : ℕ) → a < g.from → digit_at g a ≡ None
 unfolding digit_at
 below g a h = let t : (nat_le g.from a && nat_lt a (g.from + length g.digits)) ≡ false = grind (arith, nat_tests) in rw t
 
-pub above : (g : Run) (a : ℕ) → g.from + length g.digits ≤ a → digit_at g a ≡ None
+pub above : (g : DigitRun) (a : ℕ) → g.from + length g.digits ≤ a → digit_at g a ≡ None
 unfolding digit_at
 above g a h = let t : (nat_le g.from a && nat_lt a (g.from + length g.digits)) ≡ false = grind (arith, nat_tests) in rw t
 
-pub within : (g : Run) (a : ℕ) → g.from ≤ a → a < g.from + length g.digits → digit_at g a ≡ Some (nth g.digits (a - g.from))
+pub within : (g : DigitRun) (a : ℕ) → g.from ≤ a → a < g.from + length g.digits → digit_at g a ≡ Some (nth g.digits (a - g.from))
 unfolding digit_at
 within g a h l = let t : (nat_le g.from a && nat_lt a (g.from + length g.digits)) ≡ true = grind (arith, nat_tests) in rw t
 
@@ -63,19 +63,19 @@ nothing_at a b =
     ]
 
 -- a cover declares what its digits are
-cover_declares : {IsCut : List Digit → List Digit → Type 0} {a : ℕ} {ds : List Digit} {gs : List Run} → Covers IsCut a ds gs → (b : ℕ) → declared_digit gs b ≡ digit_at (run a ds) b
+cover_declares : {IsCut : List Digit → List Digit → Type 0} {a : ℕ} {ds : List Digit} {gs : List DigitRun} → Covers IsCut a ds gs → (b : ℕ) → declared_digit gs b ≡ digit_at (run a ds) b
 unfolding declared_digit
 cover_declares {a = a} nothing b = nothing_at a b
 cover_declares {a = a} (segment ds rest cut more) b = ap (λ (o : Option Digit). or_else o (digit_at (run a ds) b)) (cover_declares more b) ∙ digit_joined a ds rest b
 
 -- runs in two parts
-pub declared_joined : (gs hs : List Run) (b : ℕ) → declared_digit (gs ++ hs) b ≡ or_else (declared_digit hs b) (declared_digit gs b)
+pub declared_joined : (gs hs : List DigitRun) (b : ℕ) → declared_digit (gs ++ hs) b ≡ or_else (declared_digit hs b) (declared_digit gs b)
 unfolding declared_digit
 declared_joined [] hs b = sym (or_none (declared_digit hs b))
 declared_joined (g ∷ gs) hs b = ap (λ (o : Option Digit). or_else o (digit_at g b)) (declared_joined gs hs b) ∙ or_assoc (declared_digit hs b) (declared_digit gs b) (digit_at g b)
 
 -- the segments of pieces declare what the pieces do
-pub cut_declares : (form : DeckForm) (pieces : List Run) (b : ℕ) → declared_digit (cut_as form pieces) b ≡ declared_digit pieces b
+pub cut_declares : (form : DeckForm) (pieces : List DigitRun) (b : ℕ) → declared_digit (cut_as form pieces) b ≡ declared_digit pieces b
 unfolding cut_as declared_digit
 cut_declares form [] b = refl
 cut_declares form (p ∷ ps) b =

@@ -6,8 +6,8 @@ use Rattle.digit_core.specs.declared.Digit.{Digit}
 use Rattle.digit_core.specs.Cell.{IsGood}
 use Rattle.sps_pass_two.specs.declared.image.Piece.{Piece}
 use Rattle.sps_pass_two.specs.Types.{run_of}
-use Rattle.sps_pass_two.specs.Image.{Run}
-use Rattle.sps_pass_two.specs.Kept.{IsPiece, IsBelow, IsImage}
+use Rattle.sps_pass_two.specs.Image.{DigitRun}
+use Rattle.sps_pass_two.specs.Kept.{IsPiece, IsRunBelow, IsImage}
 use Rattle.deck_punch.specs.declared.form.DeckForm.{DeckForm}
 use Rattle.deck_punch.specs.declared.segment.SegmentOf.{SegmentOf}
 use Rattle.deck_punch.specs.Types.{segment_run}
@@ -28,18 +28,18 @@ unfolding cut_as
 piece_none form pieces i over = rw (drop_all i pieces over) refl
 
 -- what holds of each run holds of each piece
-pub piece_is : (P : Run → Type 0) (pieces : List Piece) (runs : List Run) (i : ℕ) (piece : Piece) → map run_of pieces ≡ runs → All P runs → i < length pieces → piece ≡ get_or pieces i piece → P (run_of piece)
+pub piece_is : (P : DigitRun → Type 0) (pieces : List Piece) (runs : List DigitRun) (i : ℕ) (piece : Piece) → map run_of pieces ≡ runs → All P runs → i < length pieces → piece ≡ get_or pieces i piece → P (run_of piece)
 piece_is P pieces runs i piece are all more is =
     let l : length (map run_of pieces) ≡ length pieces = length-map pieces run_of in
-    let k : get_or runs i (run_of piece) ≡ run_of piece = ap (λ (rs : List Run). get_or rs i (run_of piece)) (sym are) ∙ get_or-map run_of pieces i piece (run_of piece) more ∙ ap run_of (sym is) in
-    subst P k (all i (run_of piece) (subst (λ (rs : List Run). i < length rs) are (omega arith)))
+    let k : get_or runs i (run_of piece) ≡ run_of piece = ap (λ (rs : List DigitRun). get_or rs i (run_of piece)) (sym are) ∙ get_or-map run_of pieces i piece (run_of piece) more ∙ ap run_of (sym is) in
+    subst P k (all i (run_of piece) (subst (λ (rs : List DigitRun). i < length rs) are (omega arith)))
 
 -- a segment lies within the largest core, and its digits are good
-pub record IsPlaced (r : Run) : Type 0 where
+pub record IsPlaced (r : DigitRun) : Type 0 where
   pub below : r.from + length r.digits ≤ 60000
   pub good : All IsGood r.digits
 
-cover_each : {IsCut : List Digit → List Digit → Type 0} {a : ℕ} {ds : List Digit} {gs : List Run} → Covers IsCut a ds gs → a + length ds ≤ 60000 → All IsGood ds → All IsPlaced gs
+cover_each : {IsCut : List Digit → List Digit → Type 0} {a : ℕ} {ds : List Digit} {gs : List DigitRun} → Covers IsCut a ds gs → a + length ds ≤ 60000 → All IsGood ds → All IsPlaced gs
 cover_each nothing high good = λ k e l. absurd (omega arith)
 cover_each {a = a} (segment ds rest cut more) high good =
     let l = length-append ds rest in
@@ -48,7 +48,7 @@ cover_each {a = a} (segment ds rest cut more) high good =
     (cover_each more (omega arith) (λ k e h. subst IsGood (get_or-append-add ds rest k e) (good (length ds + k) e (omega arith))))
 
 -- each segment of an image is such
-pub cut_placed : (form : DeckForm) (pieces : List Run) → All IsPiece pieces → All (IsBelow 60000) pieces → All IsPlaced (cut_as form pieces)
+pub cut_placed : (form : DeckForm) (pieces : List DigitRun) → All IsPiece pieces → All (IsRunBelow 60000) pieces → All IsPlaced (cut_as form pieces)
 unfolding cut_as
 cut_placed form [] each below = λ k e l. absurd (omega arith)
 cut_placed form (r ∷ rs) each below =
@@ -57,10 +57,10 @@ cut_placed form (r ∷ rs) each below =
     (cut_placed form rs (λ k e l. each (suc k) e (omega arith)) (λ k e l. below (suc k) e (omega arith)))
 
 -- and so is each segment on the code's walk over them
-pub segment_placed : {n : ℕ} (form : DeckForm) (segments : List (SegmentOf n)) (pieces : List Run) (i : ℕ) (s : SegmentOf n) → map segment_run segments ≡ cut_as form pieces → IsImage pieces → i < length segments → s ≡ get_or segments i s → IsPlaced (segment_run s)
+pub segment_placed : {n : ℕ} (form : DeckForm) (segments : List (SegmentOf n)) (pieces : List DigitRun) (i : ℕ) (s : SegmentOf n) → map segment_run segments ≡ cut_as form pieces → IsImage pieces → i < length segments → s ≡ get_or segments i s → IsPlaced (segment_run s)
 segment_placed {n = n} form segments pieces i s are is more same =
     let all : All IsPlaced (cut_as form pieces) = cut_placed form pieces is.each is.below in
     let l : length (map (segment_run {n = n}) segments) ≡ length segments = length-map segments (segment_run {n = n}) in
     let k : get_or (cut_as form pieces) i (segment_run s) ≡ segment_run s =
-    ap (λ (rs : List Run). get_or rs i (segment_run s)) (sym are) ∙ get_or-map (segment_run {n = n}) segments i s (segment_run s) more ∙ ap (segment_run {n = n}) (sym same) in
-    subst IsPlaced k (all i (segment_run s) (subst (λ (rs : List Run). i < length rs) are (omega arith)))
+    ap (λ (rs : List DigitRun). get_or rs i (segment_run s)) (sym are) ∙ get_or-map (segment_run {n = n}) segments i s (segment_run s) more ∙ ap (segment_run {n = n}) (sym same) in
+    subst IsPlaced k (all i (segment_run s) (subst (λ (rs : List DigitRun). i < length rs) are (omega arith)))

@@ -5,7 +5,7 @@ use Rattle.std.proofs.lemmas.Bool.{cases_lt}
 use Rattle.std.proofs.lemmas.List.{drop_more, drop_all, length-take-le}
 use Rattle.digit_core.specs.declared.Digit.{Digit}
 use Rattle.digit_core.specs.Cell.{unflagged_digit}
-use Rattle.sps_pass_two.specs.Image.{Run}
+use Rattle.sps_pass_two.specs.Image.{DigitRun}
 use Rattle.deck_punch.specs.declared.form.DeckForm.{DeckForm}
 use Rattle.deck_punch.specs.Cut.{room_in, flags_in, take_count, take_count_in, front, segments_from}
 use Rattle.deck_punch.proofs.Covering.{no_flag_left, form_takes}
@@ -85,7 +85,7 @@ front_on form (d ∷ ds) a some =
     let t = form_takes form d ds in
     let k : length (take (take_count_in form d ds) ds) ≡ take_count_in form d ds = length-take-le (take_count_in form d ds) ds t.within in
     let e : a + suc (take_count_in form d ds) ≡ a + 1 + take_count_in form d ds = omega arith in
-    rw (k, e) (ap (λ (gs : List Run). record { from = a; digits = d ∷ take (take_count_in form d ds) ds } ∷ gs) (skip form ds (a + 1) (take_count_in form d ds) t.within))
+    rw (k, e) (ap (λ (gs : List DigitRun). record { from = a; digits = d ∷ take (take_count_in form d ds) ds } ∷ gs) (skip form ds (a + 1) (take_count_in form d ds) t.within))
 
 drop_drop : (n a : ℕ) (xs : List Digit) → drop n (drop a xs) ≡ drop (a + n) xs
 drop_drop n zero xs = let e : 0 + n ≡ n = omega arith in rw e

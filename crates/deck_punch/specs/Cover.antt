@@ -1,7 +1,7 @@
 -- What the segments of a piece are: its cover.
 use Rattle.std.specs.Prelude.{ℕ, ◌≡◌, ◌+◌, ◌-◌, ◌<◌, ◌≤◌, ◌⊎◌, true, false, List, [], ◌∷◌, ◌++◌, length}
 use Rattle.digit_core.specs.declared.Digit.{Digit}
-use Rattle.sps_pass_two.specs.Image.{Run}
+use Rattle.sps_pass_two.specs.Image.{DigitRun}
 use Rattle.deck_punch.specs.Cut.{cut_piece}
 use Rattle.deck_punch.specs.declared.segment.TheConstants.{SEGMENT_DIGITS}
 use Rattle.card_columns.specs.Orders.{nth}
@@ -20,11 +20,11 @@ pub record IsCutBefore (ds rest : List Digit) : Type 0 where
 
 -- segments cover the digits from an address on: one after the other they are these digits, and each is cut from those behind it as it must
 -- be
-pub data Covers (IsCut : List Digit → List Digit → Type 0) : ℕ → List Digit → List Run → Type 0 where
+pub data Covers (IsCut : List Digit → List Digit → Type 0) : ℕ → List Digit → List DigitRun → Type 0 where
   nothing : {a : ℕ} → Covers IsCut a [] []
-  segment : {a : ℕ} (ds rest : List Digit) {gs : List Run} → IsCut ds rest → Covers IsCut (a + length ds) rest gs
+  segment : {a : ℕ} (ds rest : List Digit) {gs : List DigitRun} → IsCut ds rest → Covers IsCut (a + length ds) rest gs
       → Covers IsCut a (ds ++ rest) (record { from = a; digits = ds } ∷ gs)
 
 -- a piece's segments cover it
 abbrev pub CutLaw : Type 0
-CutLaw = (piece : Run) → Covers IsCutBefore piece.from piece.digits (cut_piece piece)
+CutLaw = (piece : DigitRun) → Covers IsCutBefore piece.from piece.digits (cut_piece piece)

@@ -1,7 +1,7 @@
 -- How the pieces of an image are cut into segments, by the form of the deck.
 use Rattle.std.specs.Prelude.{ℕ, zero, suc, ◌+◌, ◌-◌, List, [], ◌∷◌, ◌++◌, take, if◌then◌else◌}
 use Rattle.digit_core.specs.declared.Digit.{Digit}
-use Rattle.sps_pass_two.specs.Image.{Run}
+use Rattle.sps_pass_two.specs.Image.{DigitRun}
 use Rattle.deck_punch.specs.declared.form.DeckForm.{DeckForm}
 use Rattle.deck_punch.specs.declared.form.DeckForm.TheVariants.{SelfLoading, Dense}
 use Rattle.deck_punch.specs.declared.segment.TheConstants.{SEGMENT_DIGITS, DENSE_DIGITS}
@@ -37,31 +37,31 @@ front form [] = []
 front form (d ∷ ds) = d ∷ take (take_count_in form d ds) ds
 
 -- the segments of digits from an address on, of which the first so many belong to the segment before
-unfoldable pub segments_from : DeckForm → ℕ → ℕ → List Digit → List Run
+unfoldable pub segments_from : DeckForm → ℕ → ℕ → List Digit → List DigitRun
 segments_from form a before [] = []
 segments_from form a (suc before) (d ∷ ds) = segments_from form (a + 1) before ds
 segments_from form a zero (d ∷ ds) =
     record { from = a; digits = front form (d ∷ ds) } ∷ segments_from form (a + 1) (take_count_in form d ds) ds
 
 -- a piece is cut from its low end
-abbrev pub cut_piece_as : DeckForm → Run → List Run
+abbrev pub cut_piece_as : DeckForm → DigitRun → List DigitRun
 cut_piece_as form piece = segments_from form piece.from 0 piece.digits
 
 -- the pieces, one after another
-unfoldable pub cut_as : DeckForm → List Run → List Run
+unfoldable pub cut_as : DeckForm → List DigitRun → List DigitRun
 cut_as form [] = []
 cut_as form (piece ∷ pieces) = cut_piece_as form piece ++ cut_as form pieces
 
 -- for a self-loading deck
-abbrev pub cut_piece : Run → List Run
+abbrev pub cut_piece : DigitRun → List DigitRun
 cut_piece piece = cut_piece_as SelfLoading piece
 
-abbrev pub cut : List Run → List Run
+abbrev pub cut : List DigitRun → List DigitRun
 cut pieces = cut_as SelfLoading pieces
 
 -- for a dense deck
-abbrev pub cut_piece_dense : Run → List Run
+abbrev pub cut_piece_dense : DigitRun → List DigitRun
 cut_piece_dense piece = cut_piece_as Dense piece
 
-abbrev pub cut_dense : List Run → List Run
+abbrev pub cut_dense : List DigitRun → List DigitRun
 cut_dense pieces = cut_as Dense pieces

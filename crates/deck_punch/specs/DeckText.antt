@@ -1,7 +1,7 @@
 -- The text of a deck.
 use Rattle.std.specs.Prelude.{ℕ, List}
 use Rattle.std.specs.List.{flat_map}
-use Rattle.report_lines.specs.Numbers.{with_line_feed}
+use Rattle.outside_io.specs.Lines.{with_line_feed}
 
 -- a line for each card
 abbrev pub deck_text : List (List ℕ) → List ℕ

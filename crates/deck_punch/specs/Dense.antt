@@ -3,8 +3,8 @@ use Rattle.std.specs.Prelude.{ℕ, suc, true, false, ◌+◌, ◌*◌, ◌-◌, 
 use Rattle.digit_core.specs.declared.Digit.{Digit}
 use Rattle.digit_core.specs.Cell.{unflagged_digit, with_flag}
 use Rattle.card_code.specs.Characters.{object_char}
-use Rattle.sps_pass_two.specs.Image.{Run}
-use Rattle.card_columns.specs.Orders.{address, instruction}
+use Rattle.sps_pass_two.specs.Image.{DigitRun}
+use Rattle.card_columns.specs.Orders.{address, instruction_columns}
 use Rattle.deck_punch.specs.Cards.{read_and_go, transfer_card}
 use Rattle.deck_punch.specs.Cut.{cut_dense}
 use Rattle.deck_punch.specs.Deck.{cards_of}
@@ -80,10 +80,10 @@ indirect a ds = unflagged_digit 0 ∷ unflagged_digit 0 ∷ unflagged_digit 1 �
 -- the loader card: read a card into the buffer, move its field, move its repair digit, and go on
 unfoldable pub loader_digits : List Digit
 loader_digits =
-    instruction READ_NUMERICALLY 100 CARD_READER
+    instruction_columns READ_NUMERICALLY 100 CARD_READER
     (unflagged_digit 2 ∷ unflagged_digit 6 ∷ indirect 4 (address BUFFER_END
     (unflagged_digit 2 ∷ unflagged_digit 5 ∷ indirect 9 (address REPAIR_DIGIT
-    (instruction BRANCH 0 0 (replicate SEGMENT_DIGITS (unflagged_digit 0)))))))
+    (instruction_columns BRANCH 0 0 (replicate SEGMENT_DIGITS (unflagged_digit 0)))))))
 
 -- the bridge card: its field turns the loop's jump to 00112, where the buffer has a reading into 00000 and a jump there
 unfoldable pub bridge_digits : List Digit
@@ -93,7 +93,7 @@ bridge_digits =
     (replicate 39 (unflagged_digit 0) ++ with_flag true (unflagged_digit 0) ∷ unflagged_digit 0 ∷ unflagged_digit 1 ∷ unflagged_digit 1 ∷ unflagged_digit 2 ∷ [])))
 
 -- a card's text has an object character for each digit
-abbrev pub dense_card_of : Run → List ℕ
+abbrev pub dense_card_of : DigitRun → List ℕ
 dense_card_of segment = map object_char (dense_digits segment.from segment.digits)
 
 abbrev pub loader_card : List ℕ
@@ -103,12 +103,12 @@ abbrev pub bridge_card : List ℕ
 bridge_card = map object_char bridge_digits
 
 -- a card for each dense segment of pieces
-abbrev pub dense_cards_of : List Run → List (List ℕ)
+abbrev pub dense_cards_of : List DigitRun → List (List ℕ)
 dense_cards_of pieces = map dense_card_of (cut_dense pieces)
 
 -- the dense deck of an image and a start: the loader card, a card for each dense segment of the image's other pieces, the bridge card, and
 -- then the self-loading cards of the table piece and the transfer card
-abbrev pub dense_deck : List Run → ℕ → List (List ℕ)
+abbrev pub dense_deck : List DigitRun → ℕ → List (List ℕ)
 dense_deck image start =
     loader_card ∷ dense_cards_of (other_pieces image) ++ bridge_card ∷ cards_of (table_piece image ∷ []) ++ transfer_card start ∷ []
 

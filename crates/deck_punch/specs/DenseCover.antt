@@ -1,7 +1,7 @@
 -- What the dense segments of a piece are: its cover.
 use Rattle.std.specs.Prelude.{ℕ, ◌≡◌, ◌-◌, ◌<◌, ◌≤◌, ◌⊎◌, true, List, [], length, take, drop, count_by}
 use Rattle.digit_core.specs.declared.Digit.{Digit}
-use Rattle.sps_pass_two.specs.Image.{Run}
+use Rattle.sps_pass_two.specs.Image.{DigitRun}
 use Rattle.card_columns.specs.Orders.{nth}
 use Rattle.deck_punch.specs.Cover.{Covers}
 use Rattle.deck_punch.specs.Cut.{flags_within, cut_piece_dense}
@@ -26,4 +26,4 @@ pub record IsDenseCutBefore (ds rest : List Digit) : Type 0 where
 
 -- a piece's dense segments cover it
 abbrev pub DenseLaw : Type 0
-DenseLaw = (piece : Run) → Covers IsDenseCutBefore piece.from piece.digits (cut_piece_dense piece)
+DenseLaw = (piece : DigitRun) → Covers IsDenseCutBefore piece.from piece.digits (cut_piece_dense piece)

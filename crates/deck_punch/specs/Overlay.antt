@@ -3,7 +3,7 @@ use Rattle.std.specs.Prelude.{ℕ, ◌&&◌, nat_le, nat_lt, List, length, map, 
 use Rattle.std.specs.List.{range_with_len}
 use Rattle.digit_core.specs.declared.Digit.{Digit}
 use Rattle.digit_core.specs.{cell, unflagged_digit, standard_digit}
-use Rattle.sps_pass_two.specs.Image.{Run, declared_digit}
+use Rattle.sps_pass_two.specs.Image.{DigitRun, declared_digit}
 use Rattle.deck_punch.specs.Cards.{transfer_digits}
 
 -- the cell of a digit, or, where there is none, another cell
@@ -20,10 +20,10 @@ cell_beneath start a before =
     else before
 
 -- the cell at an address: the image's digit where one is declared, and else what stands beneath
-abbrev pub overlay_cell : List Run → ℕ → ℕ → ℕ → ℕ
+abbrev pub overlay_cell : List DigitRun → ℕ → ℕ → ℕ → ℕ
 overlay_cell image start a before = cell_or (declared_digit image a) (cell_beneath start a before)
 
 -- a core over which an image was loaded, cell by cell; its size is as before
-unfoldable pub overlay : List ℕ → List Run → ℕ → List ℕ
+unfoldable pub overlay : List ℕ → List DigitRun → ℕ → List ℕ
 overlay core image start =
     map (λ a. overlay_cell image start a (slice_index_or core a 0)) (range_with_len 0 (length core))

@@ -3,33 +3,33 @@ use Rattle.std.specs.Prelude.{ℕ, ◌+◌, ◌-◌, List, [], ◌∷◌, ◌++�
 use Rattle.std.specs.List.{range_with_len}
 use Rattle.digit_core.specs.declared.Digit.{Digit}
 use Rattle.digit_core.specs.Standard.{standard_digit}
-use Rattle.sps_pass_two.specs.Image.{Run, run_with, declared_digit}
+use Rattle.sps_pass_two.specs.Image.{DigitRun, run_with, declared_digit}
 use Rattle.deck_punch.specs.declared.tables.TheConstants.{TABLES_FROM, TABLES_END}
 
 -- the digit of the tables at an address: the image's where one is declared, and else the standard tables'
-abbrev pub table_digit : List Run → ℕ → Digit
+abbrev pub table_digit : List DigitRun → ℕ → Digit
 table_digit image a = unwrap_or (declared_digit image a) (standard_digit a)
 
 -- the table piece, 00100 to 00399
-unfoldable pub table_piece : List Run → Run
+unfoldable pub table_piece : List DigitRun → DigitRun
 table_piece image = run_with TABLES_FROM (map (table_digit image) (range_with_len TABLES_FROM (TABLES_END - TABLES_FROM)))
 
 -- how many of a piece's addresses lie below 00400, if it has so many
-abbrev pub below_end : Run → ℕ
+abbrev pub below_end : DigitRun → ℕ
 below_end r = TABLES_END - r.from
 
 -- what a piece has from there on, if it has anything there
-abbrev pub behind_end : Run → Run
+abbrev pub behind_end : DigitRun → DigitRun
 behind_end r = run_with (r.from + below_end r) (drop (below_end r) r.digits)
 
-abbrev pub left_of : Run → List Run
+abbrev pub left_of : DigitRun → List DigitRun
 left_of r = if nat_lt (below_end r) (length r.digits) then behind_end r ∷ [] else []
 
 -- the other pieces: the image's runs from 00400 on
-unfoldable pub other_pieces : List Run → List Run
+unfoldable pub other_pieces : List DigitRun → List DigitRun
 other_pieces [] = []
 other_pieces (r ∷ rs) = left_of r ++ other_pieces rs
 
 -- the pieces that a deck loads
-abbrev pub with_tables : List Run → List Run
+abbrev pub with_tables : List DigitRun → List DigitRun
 with_tables image = table_piece image ∷ other_pieces image

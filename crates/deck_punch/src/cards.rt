@@ -4,7 +4,7 @@ ghost use Rattle.digit_core.specs.Cell.{IsGood};
 ghost use Rattle.card_code.specs.Characters.{object_char};
 ghost use Rattle.card_columns.specs.declared.columns.TheConstants.{CARD_COLUMNS};
 ghost use Rattle.deck_punch.specs.declared.segment.TheConstants.{SEGMENT_DIGITS};
-ghost use Rattle.card_columns.specs.Orders.{addresses};
+ghost use Rattle.card_columns.specs.Orders.{address_count};
 ghost use Rattle.deck_punch.specs.Cards.{segment_digits, card_of, transfer_card, unflagging, read_and_go};
 ghost use Rattle.deck_punch.specs.Types.{segment_run};
 
@@ -49,7 +49,7 @@ pub const CARD_READER: u32 = 500;
 /// The segment's addresses are 00000 to 99999, and each of its digits is one that a cell can hold.
 /// Source: this project's own.
 pub fn card_of(segment: &Segment) -> Card
-    requires below { segment.now.from + length segment.now.digits.items ≤ addresses }
+    requires below { segment.now.from + length segment.now.digits.items ≤ address_count }
     requires good { All IsGood segment.now.digits.items }
     ensures { result.0 ≡ card_of (segment_run segment.now) }
 {
@@ -63,7 +63,7 @@ pub fn card_of(segment: &Segment) -> Card
 
 // The card of one digit.
 fn digit_card(from: u32, digit: Digit) -> Card
-    requires below { from < addresses }
+    requires below { from < address_count }
     requires good { IsGood digit }
     ensures { result.0 ≡ map object_char (segment_digits from (digit ∷ [])) }
 {
@@ -80,7 +80,7 @@ fn digit_card(from: u32, digit: Digit) -> Card
 fn field_card(from: u32, digits: &[Digit]) -> Card
     requires some { 2 ≤ length digits.now }
     requires most { length digits.now ≤ SEGMENT_DIGITS }
-    requires below { from + length digits.now ≤ addresses }
+    requires below { from + length digits.now ≤ address_count }
     requires good { All IsGood digits.now }
     ensures { result.0 ≡ map object_char (segment_digits from digits.now) }
 {
@@ -105,7 +105,7 @@ fn field_card(from: u32, digits: &[Digit]) -> Card
 // Adds the instruction that clears the flag of the lowest digit, or does nothing where the image has that flag.
 fn unflag(card: &mut Columns, flagged: bool, low: u32)
     requires room { length card.old + 12 ≤ CARD_COLUMNS }
-    requires below { low < addresses }
+    requires below { low < address_count }
     ensures { card.new ≡ card.old ++ map object_char (unflagging flagged low []) }
 {
     if flagged {
@@ -130,7 +130,7 @@ fn read_and_go(card: &mut Columns)
 /// `start` is 00000 to 99999.
 /// Source: this project's own.
 pub fn transfer_card(start: u32) -> Card
-    requires { start < addresses }
+    requires { start < address_count }
     ensures { result.0 ≡ transfer_card start }
 {
     let mut columns = Columns::new();

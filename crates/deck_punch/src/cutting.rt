@@ -84,7 +84,7 @@ fn front_segment<const N: usize>(from: u32, digits: &[Digit], form: DeckForm) ->
     ensures from { result.from ≡ from }
     ensures digits { result.digits.items ≡ front form digits.now }
 {
-    let count = 1 + taken(flags_in(form, digits[0]), N - 1, &digits[1..]);
+    let count = 1 + take_count(flags_in(form, digits[0]), N - 1, &digits[1..]);
     let mut front = ArrayVec::new();
     for digit in &digits[..count] {
         front.push(*digit);
@@ -107,7 +107,7 @@ fn flags_in(form: DeckForm, first: Digit) -> usize
 }
 
 // How many of these digits a segment takes, which stand behind its first: up to so many flagged ones, where it has room for so many more.
-fn taken(flags: usize, room: usize, digits: &[Digit]) -> usize
+fn take_count(flags: usize, room: usize, digits: &[Digit]) -> usize
     requires { 1 ≤ flags }
     ensures is { result ≡ take_count flags room digits.now }
     ensures most { result ≤ room }

@@ -5,7 +5,7 @@ ghost use Rattle.digit_core.specs.Cell.{IsGood};
 ghost use Rattle.card_code.specs.Characters.{object_char};
 ghost use Rattle.card_columns.specs.declared.columns.TheConstants.{CARD_COLUMNS};
 ghost use Rattle.deck_punch.specs.declared.segment.TheConstants.{DENSE_DIGITS};
-ghost use Rattle.card_columns.specs.Orders.{addresses};
+ghost use Rattle.card_columns.specs.Orders.{address_count};
 ghost use Rattle.deck_punch.specs.Dense.{dense_card_of, dense_digits, repair, repair_digits, digits_on_card, place_of_repair, loader_card, bridge_card};
 ghost use Rattle.deck_punch.specs.Types.{segment_run};
 
@@ -39,7 +39,7 @@ const FLAGGED_ZERO: Digit = Digit {
 ///
 /// The segment's addresses are 00000 to 99999, and each of its digits is one that a cell can hold.
 pub fn dense_card_of(segment: &DenseSegment) -> Card
-    requires below { segment.now.from + length segment.now.digits.items ≤ addresses }
+    requires below { segment.now.from + length segment.now.digits.items ≤ address_count }
     requires good { All IsGood segment.now.digits.items }
     ensures { result.0 ≡ dense_card_of (segment_run segment.now) }
 {
@@ -53,7 +53,7 @@ pub fn dense_card_of(segment: &DenseSegment) -> Card
 
 // The card of one digit, which is its own repair; a field of two zeros moves to itself.
 fn single_card(from: u32, digit: Digit) -> Card
-    requires below { from < addresses }
+    requires below { from < address_count }
     requires good { IsGood digit }
     ensures { result.0 ≡ map object_char (dense_digits from (digit ∷ [])) }
 {
@@ -71,7 +71,7 @@ fn single_card(from: u32, digit: Digit) -> Card
 fn several_card(from: u32, digits: &[Digit]) -> Card
     requires some { 2 ≤ length digits.now }
     requires most { length digits.now ≤ DENSE_DIGITS }
-    requires below { from + length digits.now ≤ addresses }
+    requires below { from + length digits.now ≤ address_count }
     requires good { All IsGood digits.now }
     ensures { result.0 ≡ map object_char (dense_digits from digits.now) }
 {
@@ -87,7 +87,7 @@ fn several_card(from: u32, digits: &[Digit]) -> Card
 fn put_right(columns: &mut Columns, from: u32, digits: &[Digit])
     requires some { 1 ≤ length digits.now }
     requires room { length columns.old + 6 ≤ CARD_COLUMNS }
-    requires below { from + length digits.now ≤ addresses }
+    requires below { from + length digits.now ≤ address_count }
     requires good { All IsGood digits.now }
     ensures { columns.new ≡ columns.old
         ++ map object_char (repair_digits (repair from digits.now)) }

@@ -79,11 +79,11 @@ fn table_digit(image: &Image, a: u32) -> Digit
     requires high { a < TABLES_END }
     ensures { result ≡ table_digit image.now.pieces a }
 {
-    declared_at(image, a).unwrap_or(standard_digit(a))
+    declared_digit(image, a).unwrap_or(standard_digit(a))
 }
 
 // The digit that an image declares at an address.
-fn declared_at(image: &Image, a: u32) -> Option<Digit>
+fn declared_digit(image: &Image, a: u32) -> Option<Digit>
     ensures { result ≡ declared_digit image.now.pieces a }
 {
     let mut found = None;

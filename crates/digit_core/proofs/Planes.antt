@@ -5,7 +5,7 @@ use Rattle.std.proofs.lemmas.Bool.Decides.{nat_tests}
 use Rattle.std.proofs.Math.Pow.{mod-mod-pow}
 use lib.Count.{ones}
 use Rattle.digit_core.specs.Packed.{six}
-use Rattle.digit_core.specs.Search.{has_mark, has_eight_and_two, is_bad, is_undecimal, one_if}
+use Rattle.digit_core.specs.Search.{has_mark, has_eight_and_two, is_bad_cell, is_undecimal, one_if}
 use Rattle.digit_core.specs.Cell.{has_flag}
 use Rattle.digit_core.proofs.Below.{same_below}
 use Rattle.digit_core.proofs.Sixes.{six_of_low}
@@ -277,21 +277,21 @@ no_mark_without c without = grind (arith, nat_tests)
 abbrev pub bads : ℕ → ℕ
 bads w = bit_and (bit_or (bit_xor (odd w) lowest) (wrong w)) lowest
 
-each_bad : (c : ℕ) → c < 64 → bad_bit c ≡ one_if (is_bad c)
+each_bad : (c : ℕ) → c < 64 → bad_bit c ≡ one_if (is_bad_cell c)
 unfolding bad_bit ones
-each_bad c below = same_below bad_bit (λ c. one_if (is_bad c)) 64 c 0 refl below
+each_bad c below = same_below bad_bit (λ c. one_if (is_bad_cell c)) 64 c 0 refl below
 
-pub bad_is : (w mask j : ℕ) → j < 10 → six mask j ≡ 1 → six (bit_and (bit_or (bit_xor (odd w) lowest) (wrong w)) mask) j ≡ one_if (is_bad (six w j))
+pub bad_is : (w mask j : ℕ) → j < 10 → six mask j ≡ 1 → six (bit_and (bit_or (bit_xor (odd w) lowest) (wrong w)) mask) j ≡ one_if (is_bad_cell (six w j))
 unfolding bad_bit
 bad_is w mask j h named =
-    let each : bad_bit (six w j) ≡ one_if (is_bad (six w j)) = each_bad (six w j) (six_small w j) in
+    let each : bad_bit (six w j) ≡ one_if (is_bad_cell (six w j)) = each_bad (six w j) (six_small w j) in
     named_six j _ mask named ∙ bit_of_or j _ _ _ _ (even_is w j h) (wrong_is w j h) ∙ each
 
-pub is_bad_one : (w j : ℕ) → j < 10 → six (bads w) j ≡ one_if (is_bad (six w j))
+pub is_bad_one : (w j : ℕ) → j < 10 → six (bads w) j ≡ one_if (is_bad_cell (six w j))
 is_bad_one w j h = bad_is w lowest j h (six_lowest j h)
 
-pub named_good : (w mask j : ℕ) → j < 10 → six mask j ≡ 1 → bit_and (bads w) mask ≡ 0 → is_bad (six w j) ≡ false
-named_good w mask j h named none = no_one (bit_and (bads w) mask) j (is_bad (six w j)) (masked_one (bads w) mask j (is_bad (six w j)) (is_bad_one w j h) named) none
+pub named_good : (w mask j : ℕ) → j < 10 → six mask j ≡ 1 → bit_and (bads w) mask ≡ 0 → is_bad_cell (six w j) ≡ false
+named_good w mask j h named none = no_one (bit_and (bads w) mask) j (is_bad_cell (six w j)) (masked_one (bads w) mask j (is_bad_cell (six w j)) (is_bad_one w j h) named) none
 
 -- cells that hold no decimal digit
 abbrev pub undecimals : ℕ → ℕ

@@ -31,10 +31,10 @@ abbrev pub ten_across : ℕ → ℕ → ℕ → ℕ
 ten_across low high j = low / 2 ^ (6 * j) + high * 2 ^ (60 - 6 * j) % 2 ^ 64 % 2 ^ 60
 
 -- what is known of the add table is so
-unfoldable pub IsKnown : AddTable → List ℕ → Type 0
-IsKnown Unseen cells = ⊤
-IsKnown Standard cells = HasAddTable cells
-IsKnown Other cells = HasAddTable cells → ⊥
+unfoldable pub IsTableKnown : AddTable → List ℕ → Type 0
+IsTableKnown Unseen cells = ⊤
+IsTableKnown Standard cells = HasAddTable cells
+IsTableKnown Other cells = HasAddTable cells → ⊥
 
 -- what is known of it once at most ten cells have been stored from a on: nothing, where they may be its own
 abbrev pub note_store : AddTable → ℕ → AddTable
@@ -47,7 +47,7 @@ pub record IsPacked (m : ℕ) (ws : List ℕ) (sound : Bool) (table : AddTable) 
   pub is_length : length ws ≡ m * MODULE_WORDS
   pub sixty_bits : All (λ w. w < 2 ^ 60) ws
   pub is_sound : sound ≡ true → IsSound (cells_of ws)
-  pub is_known : IsKnown table (cells_of ws)
+  pub is_known : IsTableKnown table (cells_of ws)
 
 -- an empty list with room for the words of a core of size m
 pub record IsRoom (m : ℕ) (words : Vec ℕ Global) : Type 0 where

@@ -2,7 +2,7 @@
 -- Source: CPU manual, data representation, for flags and record marks; the searches are this project's own.
 use Rattle.std.specs.Prelude.{ℕ, zero, suc, Bool, true, false, not, ◌≡◌, ◌<◌, ◌*◌, ◌+◌, ◌-◌, ◌/◌, ◌%◌, ◌==◌, nat_le, count_ones, List, length, slice_index, if◌then◌else◌, Option, Some, None}
 use Rattle.std.specs.List.{All}
-use Rattle.digit_core.specs.Cell.{is_value, value_in, has_flag}
+use Rattle.digit_core.specs.Cell.{is_cell_value, value_in, has_flag}
 use Rattle.digit_core.specs.declared.TheConstants.{RECORD_MARK}
 
 -- the first of n positions from a upwards whose cell passes
@@ -43,12 +43,12 @@ abbrev pub has_eight_and_two : ℕ → Bool
 has_eight_and_two c = if c / 8 % 2 == 1 then c / 2 % 2 == 1 else false
 
 -- a cell that holds no digit
-abbrev pub is_bad : ℕ → Bool
-is_bad c = if count_ones c % 2 == 0 then true else not (is_value (value_in c))
+abbrev pub is_bad_cell : ℕ → Bool
+is_bad_cell c = if count_ones c % 2 == 0 then true else not (is_cell_value (value_in c))
 
 -- each cell holds a digit
 abbrev pub IsSound : List ℕ → Type 0
-IsSound cells = All (λ c. is_bad c ≡ false) cells
+IsSound cells = All (λ c. is_bad_cell c ≡ false) cells
 
 -- a cell that holds no decimal digit
 abbrev pub is_undecimal : ℕ → Bool
@@ -69,4 +69,4 @@ mark_above cells a = first_up has_mark cells a (length cells - a)
 -- the first bad cell on the way from a to b, both included
 abbrev pub first_bad : List ℕ → ℕ → ℕ → Option ℕ
 first_bad cells a b =
-    if nat_le a b then first_up is_bad cells a (b + 1 - a) else first_down is_bad cells (a + 1) (a + 1 - b)
+    if nat_le a b then first_up is_bad_cell cells a (b + 1 - a) else first_down is_bad_cell cells (a + 1) (a + 1 - b)

@@ -3,7 +3,7 @@
 -- project's own.
 use Rattle.std.specs.Prelude.{ℕ, ◌≡◌, ◌≢◌, ◌+◌, ◌-◌, ◌<◌, ◌≤◌, ◌%◌, true, false}
 use Rattle.digit_core.specs.Packed.{six}
-use Rattle.digit_core.specs.Search.{has_mark, is_bad, is_undecimal}
+use Rattle.digit_core.specs.Search.{has_mark, is_bad_cell, is_undecimal}
 use Rattle.digit_core.specs.Cell.{has_flag}
 
 -- the field whose units are the highest cell of w has n digits: the flag that ends it stands there, and none between
@@ -35,15 +35,15 @@ pub record IsHighest (ones j : ℕ) : Type 0 where
 
 -- each of the word's cells holds a digit
 abbrev pub AreGood : ℕ → Type 0
-AreGood w = (j : ℕ) → j < 10 → is_bad (six w j) ≡ false
+AreGood w = (j : ℕ) → j < 10 → is_bad_cell (six w j) ≡ false
 
 -- each of its n lowest does
 abbrev pub AreGoodUpTo : ℕ → ℕ → Type 0
-AreGoodUpTo w n = (j : ℕ) → j < n → is_bad (six w j) ≡ false
+AreGoodUpTo w n = (j : ℕ) → j < n → is_bad_cell (six w j) ≡ false
 
 -- each of the cells that a mask names does
 abbrev pub AreGoodAt : ℕ → ℕ → Type 0
-AreGoodAt w mask = (j : ℕ) → j < 10 → six mask j ≡ 1 → is_bad (six w j) ≡ false
+AreGoodAt w mask = (j : ℕ) → j < 10 → six mask j ≡ 1 → is_bad_cell (six w j) ≡ false
 
 -- each of the cells that a mask names holds a decimal digit
 abbrev pub AreDecimalAt : ℕ → ℕ → Type 0
@@ -53,14 +53,14 @@ AreDecimalAt w mask = (j : ℕ) → j < 10 → six mask j ≡ 1 → is_undecimal
 pub record HasBad (w : ℕ) : Type 0 where
   pub place : ℕ
   pub ten : place < 10
-  pub bad : is_bad (six w place) ≡ true
+  pub bad : is_bad_cell (six w place) ≡ true
 
 -- one of the cells that a mask names is bad
 pub record HasBadAt (w mask : ℕ) : Type 0 where
   pub place : ℕ
   pub ten : place < 10
   pub named : six mask place % 2 ≡ 1
-  pub bad : is_bad (six w place) ≡ true
+  pub bad : is_bad_cell (six w place) ≡ true
 
 -- one of the cells that a mask names holds no decimal digit
 pub record HasUndecimalAt (w mask : ℕ) : Type 0 where

@@ -4,10 +4,10 @@
 
 ghost use Rattle.std.specs.Prelude.{◌≡◌, ◌+◌, ◌-◌, ◌*◌, ◌<◌, ◌≤◌, ℕ, All, false};
 ghost use Rattle.digit_core.specs.Size.{size};
-ghost use Rattle.digit_core.specs.Search.{is_bad, flag_below, mark_above, first_bad, first_up, first_down};
+ghost use Rattle.digit_core.specs.Search.{is_bad_cell, flag_below, mark_above, first_bad, first_up, first_down};
 ghost use Rattle.digit_core.specs.Search.{NonePasses, AgreeUp, AgreeDown, first_up_words, first_down_words};
 
-use crate::sought::{Bad, Flag, Mark, Sought};
+use crate::sought::{AnyRecordMark, BadCell, Flag, Sought};
 use crate::words::{highest, lowest, ones_between};
 use crate::{Core, MODULE_WORDS};
 
@@ -34,11 +34,11 @@ impl<const M: u32> Core<M> {
         ensures { result ≡ mark_above self.now a }
     {
         self.size_law();
-        if let Some(at) = self.up_in::<Mark>(a / 10, a % 10, 10) {
+        if let Some(at) = self.up_in::<AnyRecordMark>(a / 10, a % 10, 10) {
             return Some(at);
         }
-        let at = self.up_eights::<Mark>(a / 10 + 1, M * MODULE_WORDS);
-        self.up_words::<Mark>(at, M * MODULE_WORDS)
+        let at = self.up_eights::<AnyRecordMark>(a / 10 + 1, M * MODULE_WORDS);
+        self.up_words::<AnyRecordMark>(at, M * MODULE_WORDS)
     }
 
     /// The first cell on the way from `a` to `b`, both included, that holds no digit; `None` where there is none.
@@ -65,40 +65,40 @@ impl<const M: u32> Core<M> {
     fn first_bad_up(&self, a: u32, b: u32) -> Option<u32>
         requires order { a ≤ b }
         requires b { b < size M }
-        ensures { result ≡ first_up is_bad self.now a (b + 1 - a) }
+        ensures { result ≡ first_up is_bad_cell self.now a (b + 1 - a) }
     {
         let first = a / 10;
         let last = b / 10;
         if first == last {
-            return self.up_in::<Bad>(first, a % 10, b % 10 + 1);
+            return self.up_in::<BadCell>(first, a % 10, b % 10 + 1);
         }
-        if let Some(at) = self.up_in::<Bad>(first, a % 10, 10) {
+        if let Some(at) = self.up_in::<BadCell>(first, a % 10, 10) {
             return Some(at);
         }
-        if let Some(at) = self.up_words::<Bad>(first + 1, last) {
+        if let Some(at) = self.up_words::<BadCell>(first + 1, last) {
             return Some(at);
         }
-        self.up_in::<Bad>(last, 0, b % 10 + 1)
+        self.up_in::<BadCell>(last, 0, b % 10 + 1)
     }
 
     // The first bad cell from `a` downwards to `b`, likewise.
     fn first_bad_down(&self, a: u32, b: u32) -> Option<u32>
         requires order { b ≤ a }
         requires a { a < size M }
-        ensures { result ≡ first_down is_bad self.now (a + 1) (a + 1 - b) }
+        ensures { result ≡ first_down is_bad_cell self.now (a + 1) (a + 1 - b) }
     {
         let first = a / 10;
         let last = b / 10;
         if first == last {
-            return self.down_in::<Bad>(first, b % 10, a % 10 + 1);
+            return self.down_in::<BadCell>(first, b % 10, a % 10 + 1);
         }
-        if let Some(at) = self.down_in::<Bad>(first, 0, a % 10 + 1) {
+        if let Some(at) = self.down_in::<BadCell>(first, 0, a % 10 + 1) {
             return Some(at);
         }
-        if let Some(at) = self.down_words::<Bad>(first, last + 1) {
+        if let Some(at) = self.down_words::<BadCell>(first, last + 1) {
             return Some(at);
         }
-        self.down_in::<Bad>(last, b % 10, 10)
+        self.down_in::<BadCell>(last, b % 10, 10)
     }
 
     // Among the cells of word `i` from number `from` on, below `to`: the lowest that passes.

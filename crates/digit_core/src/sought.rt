@@ -5,7 +5,7 @@
 ghost use Rattle.std.specs.Prelude.{◌≡◌, ℕ, ◌<◌, Bool, false};
 ghost use Rattle.digit_core.specs.Packed.{six};
 ghost use Rattle.digit_core.specs.Cell.{has_flag};
-ghost use Rattle.digit_core.specs.Search.{has_mark, is_bad, one_if};
+ghost use Rattle.digit_core.specs.Search.{has_mark, is_bad_cell, one_if};
 
 use crate::words;
 
@@ -39,9 +39,9 @@ impl Sought for Flag {
 }
 
 // A record mark, flagged or not.
-pub(crate) struct Mark;
+pub(crate) struct AnyRecordMark;
 
-impl Sought for Mark {
+impl Sought for AnyRecordMark {
     ghost passes = { has_mark };
 
     #[inline]
@@ -57,10 +57,10 @@ impl Sought for Mark {
 }
 
 // A cell that holds no digit.
-pub(crate) struct Bad;
+pub(crate) struct BadCell;
 
-impl Sought for Bad {
-    ghost passes = { is_bad };
+impl Sought for BadCell {
+    ghost passes = { is_bad_cell };
 
     #[inline]
     fn ones(w: u64) -> u64 {

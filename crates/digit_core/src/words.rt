@@ -3,7 +3,7 @@
 ghost use Rattle.std.specs.Prelude.{◌≡◌, ℕ, ◌+◌, ◌*◌, ◌/◌, ◌^◌, ◌<◌, true, false, bit_and, bit_xor, Ok, IfSome, ◌%◌, ◌≤◌, ◌≢◌, ◌⊎◌, None, All, length, slice_set};
 ghost use Rattle.digit_core.specs.Packed.{six, cells_of, with_six, with_part};
 ghost use Rattle.digit_core.specs.Cell.{IsGood, read_cell, has_flag};
-ghost use Rattle.digit_core.specs.Search.{has_mark, has_eight_and_two, is_bad, is_undecimal, one_if};
+ghost use Rattle.digit_core.specs.Search.{has_mark, has_eight_and_two, is_bad_cell, is_undecimal, one_if};
 ghost use Rattle.digit_core.specs.Within.{EndsField, EndsRecord, IsLowest, IsHighest};
 ghost use Rattle.digit_core.specs.Within.{AreGood, AreGoodAt, AreDecimalAt, HasBad, HasBadAt, HasUndecimalAt};
 
@@ -115,7 +115,7 @@ fn half_parities(w: u64) -> u64
 // A word with 1 in each cell that holds no digit, and 0 in the others.
 #[inline]
 pub(crate) fn bads(w: u64) -> u64
-    ensures cells { (j : ℕ) → j < 10 → six result j ≡ one_if (is_bad (six w j)) }
+    ensures cells { (j : ℕ) → j < 10 → six result j ≡ one_if (is_bad_cell (six w j)) }
     ensures word { result < 2 ^ 60 }
 {
     let half = half_parities(w);
@@ -306,7 +306,7 @@ pub fn record_in(w: u64) -> Option<u32>
 #[tactic(auto, unfolding(crate::specs::Cell::read_cell))]
 pub fn digit_in(w: u64, j: u32) -> Digit
     requires place { j < 10 }
-    requires good { is_bad (six w j) ≡ false }
+    requires good { is_bad_cell (six w j) ≡ false }
     ensures is { read_cell (six w j) ≡ Ok result }
     ensures good { IsGood result }
 {

@@ -12,7 +12,7 @@ use Rattle.traces.specs.Trace.{Trace, ends, ◌>>=◌}
 use Rattle.disk_1311.specs.Sector.{DiskEffect, alarm_first}
 use Rattle.disk_1311.specs.Disk.{is_group, group_check}
 use Rattle.disk_1311.specs.DiskCalls.{disk_moment, Transfers, Transferred}
-use Rattle.disk_1311.specs.Moving.{Looks, Looked}
+use Rattle.disk_1311.specs.Moving.{LooksForMark, Looked}
 use Rattle.disk_1311.specs.declared.DiskKind.{DiskKind}
 use Rattle.disk_1311.specs.declared.DiskIo.{DiskIo}
 use Rattle.disk_1311.specs.declared.DiskIo.TheVariants as io
@@ -57,7 +57,7 @@ module _ (f : (ℕ → List ℕ) → Trace DiskEffect ⊤ Stop) (core : List ℕ
         all = rw (is given) (lights_done t.effects core panel new_panel now lights looked.panel_is);
       }
 
-  pub looks_all : (t : Trace DiskEffect ⊤ Stop) (new_panel : Panel) (answer : DiskIo) → IsLights t.effects → ((g : ℕ → List ℕ) → f g ≡ t) → Looks t panel new_panel answer → Transfers f (disk_moment core panel now) (disk_moment core new_panel now) answer
+  pub looks_all : (t : Trace DiskEffect ⊤ Stop) (new_panel : Panel) (answer : DiskIo) → IsLights t.effects → ((g : ℕ → List ℕ) → f g ≡ t) → LooksForMark t panel new_panel answer → Transfers f (disk_moment core panel now) (disk_moment core new_panel now) answer
   looks_all t new_panel io.Done lights is looks = lights_only t new_panel (Ok tt) lights is looks
   looks_all t new_panel (io.Stop why) lights is looks = lights_only t new_panel (Err why) lights is looks
   looks_all t new_panel io.Failed lights is looks = absurd looks

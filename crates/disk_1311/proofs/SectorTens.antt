@@ -4,7 +4,7 @@ use Rattle.std.proofs.lemmas.List.{take-append-drop, drop-drop, length-take, len
 use Rattle.std.proofs.lemmas.Bool.Decides.{nat_tests}
 use Rattle.std.specs.Prelude.{Option, Some, None, option_map, if◌then◌else◌, ⊤}
 use Rattle.digit_core.specs.declared.Digit.{Digit}
-use Rattle.digit_core.specs.Cell.{is_value, cell, read_cell, same_digit}
+use Rattle.digit_core.specs.Cell.{is_cell_value, cell, read_cell, same_digit}
 use Rattle.digit_core.specs.Packed.{six}
 use Rattle.digit_core.specs.Written.{core_with_word}
 use Rattle.card_code.proofs.CellsWritten.{written_none, written_more}
@@ -97,7 +97,7 @@ module _ (core : List ℕ) (panel : Panel) (a w : ℕ) where
 
 -- Bytes that are those of their cells.
 good_of : Option Digit → Bool
-good_of (Some d) = is_value d.value
+good_of (Some d) = is_cell_value d.value
 good_of None = true
 
 each_good : (c : ℕ) → c < 256 → good_of (object_digit c) ≡ true

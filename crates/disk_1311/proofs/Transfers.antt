@@ -16,7 +16,7 @@ use Rattle.traces.specs.Trace.{Trace, ends, does_all, after_answer}
 use Rattle.disk_1311.specs.Sector.{DiskEffect, core_left, alarm_first, read_sector, compare_sector}
 use Rattle.disk_1311.specs.Disk.{cylinder_of, host_sector, move_sector, move_sectors, group_check}
 use Rattle.disk_1311.specs.DiskCalls.{disk_moment, Done, sectors_left, Transfers, Transferred, TransferredFirst}
-use Rattle.disk_1311.specs.Moving.{MovedSector, NotMoved, MovesSector, Looks}
+use Rattle.disk_1311.specs.Moving.{MovedSector, NotMoved, MovesSector, LooksForMark}
 use Rattle.disk_1311.specs.declared.DiskKind.{DiskKind}
 use Rattle.disk_1311.specs.declared.DiskKind.TheVariants.{Rdgn, Cdgn, Rdn, Cdn, Wdgn, Wdn}
 use Rattle.disk_1311.specs.declared.DiskIo.{DiskIo}
@@ -193,7 +193,7 @@ pub onward_start : (t : (ℕ → List ℕ) → Trace DiskEffect ⊤ Stop) (core 
 onward_start t core panel now = record { by = λ new new_panel after answer rest. rest }
 
 -- an alarm, and then a check
-alarmed : (t : Trace DiskEffect ⊤ Stop) (panel new_panel : Panel) (answer : DiskIo) → Looks t (set CYLINDER_OVERFLOW true panel) new_panel answer → Looks (alarm_first CYLINDER_OVERFLOW t) panel new_panel answer
+alarmed : (t : Trace DiskEffect ⊤ Stop) (panel new_panel : Panel) (answer : DiskIo) → LooksForMark t (set CYLINDER_OVERFLOW true panel) new_panel answer → LooksForMark (alarm_first CYLINDER_OVERFLOW t) panel new_panel answer
 alarmed t panel new_panel io.Done looks = record { answers = looks.answers; panel_is = looks.panel_is }
 alarmed t panel new_panel (io.Stop why) looks = record { answers = looks.answers; panel_is = looks.panel_is }
 alarmed t panel new_panel io.Failed looks = looks
@@ -208,7 +208,7 @@ module _ (kind : DiskKind) (drive cylinder end : ℕ) (core : List ℕ) (a secto
   Going = Onward (left_to_move kind drive cylinder core a sector (end - sector)) core panel now whole start start_panel first
 
   -- none is left
-  pub none_left : end ≤ sector → Going → (new_panel : Panel) (answer : DiskIo) → Looks (group_check kind core a) panel new_panel answer → Transfers whole (disk_moment start start_panel first) (disk_moment core new_panel now) answer
+  pub none_left : end ≤ sector → Going → (new_panel : Panel) (answer : DiskIo) → LooksForMark (group_check kind core a) panel new_panel answer → Transfers whole (disk_moment start start_panel first) (disk_moment core new_panel now) answer
   none_left all going new_panel answer looks =
       let none : end - sector ≡ 0 = omega arith in
       let onward = rw none at going in
@@ -222,7 +222,7 @@ module _ (kind : DiskKind) (drive cylinder end : ℕ) (core : List ℕ) (a secto
     one_more = omega arith
 
     -- the cylinder has ended
-    pub over : cylinder_of sector ≢ cylinder → Going → (new_panel : Panel) (answer : DiskIo) → Looks (group_check kind core a) (set CYLINDER_OVERFLOW true panel) new_panel answer → Transfers whole (disk_moment start start_panel first) (disk_moment core new_panel now) answer
+    pub over : cylinder_of sector ≢ cylinder → Going → (new_panel : Panel) (answer : DiskIo) → LooksForMark (group_check kind core a) (set CYLINDER_OVERFLOW true panel) new_panel answer → Transfers whole (disk_moment start start_panel first) (disk_moment core new_panel now) answer
     over other going new_panel answer looks =
         let onward = rw one_more at going in
         let test : (cylinder_of sector == cylinder) ≡ false = grind (arith, nat_tests) in

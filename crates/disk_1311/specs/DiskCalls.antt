@@ -36,7 +36,7 @@ abbrev pub world_left : World → List DiskEffect → World
 world_left w es = record w { sectors = option_map (λ sectors. sectors_left sectors es) w.sectors }
 
 -- a seek was made: panel and arms are those that its effects leave
-pub record Sought (t : Trace DiskEffect ⊤ Stop) (panel : Panel) (arms : List ℕ) (new_panel : Panel)
+pub record MadeSeek (t : Trace DiskEffect ⊤ Stop) (panel : Panel) (arms : List ℕ) (new_panel : Panel)
     (new_arms : List ℕ) (r : Result ⊤ Stop) : Type 0 where
   pub answers : t.answer ≡ r
   pub panel_is : new_panel ≡ panel_left panel t.effects
@@ -44,8 +44,8 @@ pub record Sought (t : Trace DiskEffect ⊤ Stop) (panel : Panel) (arms : List �
 
 -- what `seek` does, by its answer
 abbrev pub Seeks : Trace DiskEffect ⊤ Stop → Panel → List ℕ → Panel → List ℕ → DiskIo → Type 0
-Seeks t panel arms new_panel new_arms io.Done = Sought t panel arms new_panel new_arms (Ok tt)
-Seeks t panel arms new_panel new_arms (io.Stop why) = Sought t panel arms new_panel new_arms (Err why)
+Seeks t panel arms new_panel new_arms io.Done = MadeSeek t panel arms new_panel new_arms (Ok tt)
+Seeks t panel arms new_panel new_arms (io.Stop why) = MadeSeek t panel arms new_panel new_arms (Err why)
 Seeks t panel arms new_panel new_arms io.Failed = ⊥
 
 -- these effects were done

@@ -41,7 +41,7 @@ pub record Looked (t : Trace DiskEffect ⊤ Stop) (panel new_panel : Panel) (r :
   pub panel_is : new_panel ≡ panel_left panel t.effects
 
 -- what the look does, by its answer
-abbrev pub Looks : Trace DiskEffect ⊤ Stop → Panel → Panel → DiskIo → Type 0
-Looks t panel new_panel io.Done = Looked t panel new_panel (Ok tt)
-Looks t panel new_panel (io.Stop why) = Looked t panel new_panel (Err why)
-Looks t panel new_panel io.Failed = ⊥
+abbrev pub LooksForMark : Trace DiskEffect ⊤ Stop → Panel → Panel → DiskIo → Type 0
+LooksForMark t panel new_panel io.Done = Looked t panel new_panel (Ok tt)
+LooksForMark t panel new_panel (io.Stop why) = Looked t panel new_panel (Err why)
+LooksForMark t panel new_panel io.Failed = ⊥

@@ -84,10 +84,10 @@ pub(crate) fn control_field<const M: u32>(
         digits[k] = decimal_at(core, at + k as u32)?.value;
     }
     let control = Control {
-        drive: number_of(&digits[..1]),
-        sector: number_of(&digits[1..6]),
-        count: number_of(&digits[6..9]),
-        address: number_of(&digits[9..]),
+        drive: number_of_digits(&digits[..1]),
+        sector: number_of_digits(&digits[1..6]),
+        count: number_of_digits(&digits[6..9]),
+        address: number_of_digits(&digits[9..]),
     };
     if control.drive >= 1 && control.drive as usize <= drives {
         Ok(control)
@@ -97,7 +97,7 @@ pub(crate) fn control_field<const M: u32>(
 }
 
 // The number that at most five digits are, the first being the highest.
-fn number_of(digits: &[u8]) -> u32
+fn number_of_digits(digits: &[u8]) -> u32
     requires short { length digits.now ≤ 5 }
     ensures { result ≡ number_of_digits digits.now }
 {

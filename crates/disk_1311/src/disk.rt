@@ -5,7 +5,7 @@ ghost use Rattle.outside_io.specs.declared.host.TheConstants.{ALL_SECTORS};
 ghost use Rattle.disk_1311.specs.Disk.{seek, transfer, group_check, transfer_trace};
 ghost use Rattle.disk_1311.specs.declared.control.TheConstants.{DRIVE_SECTORS};
 ghost use Rattle.disk_1311.specs.DiskCalls.{disk_moment, Seeks, Transfers};
-ghost use Rattle.disk_1311.specs.Moving.{Looks};
+ghost use Rattle.disk_1311.specs.Moving.{LooksForMark};
 
 use crate::control::{Control, DRIVE_SECTORS, control_field, cylinder_of};
 use crate::sector::move_sector;
@@ -126,7 +126,7 @@ fn move_sectors<const M: u32, H: Host>(
 
 // Looks for a group mark at `a` where the kind of transfer asks for one. The read back check goes on where there is none.
 fn group_check<const M: u32>(kind: DiskKind, core: &Core<M>, a: u32, panel: &mut Panel) -> DiskIo
-    ensures { Looks (group_check kind core.now a) panel.old panel.new result }
+    ensures { LooksForMark (group_check kind core.now a) panel.old panel.new result }
 {
     if !kind.is_group() {
         return DiskIo::Done;

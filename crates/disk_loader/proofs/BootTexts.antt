@@ -1,6 +1,6 @@
 -- The texts of the cards of a bootstrap deck: none is longer than a card, and no character ends a line.
 use Rattle.std.proofs.Common.{ℕ, List, [], ◌∷◌, map, refl}
-use Rattle.sps_pass_two.specs.Image.{Run}
+use Rattle.sps_pass_two.specs.Image.{DigitRun}
 use Rattle.deck_punch.specs.Cards.{transfer_card}
 use Rattle.card_columns.proofs.CardTexts.{IsCardText, AreCardTexts, texts_on, digits_text}
 use Rattle.deck_punch.proofs.TransferCard.{transfer_text}
@@ -17,5 +17,5 @@ stretch_texts [] = tt
 stretch_texts (s ∷ ss) = (stretch_text s, stretch_texts ss)
 
 -- whatever the image and the start
-pub boot_texts : (image : List Run) (start : ℕ) → AreCardTexts (bootstrap image start)
+pub boot_texts : (image : List DigitRun) (start : ℕ) → AreCardTexts (bootstrap image start)
 boot_texts image start = texts_on (map stretch_card (stretches image)) (transfer_card start ∷ []) (stretch_texts (stretches image)) (transfer_text start, tt)

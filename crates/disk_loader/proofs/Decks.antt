@@ -8,20 +8,20 @@ use Rattle.indicators.specs.Panel.{set}
 use Rattle.indicators.specs.declared.codes.TheConstants.{LAST_CARD}
 use Rattle.branch_ops.specs.Registers.{on_at}
 use Rattle.card_code.specs.Characters.{object_char}
-use Rattle.card_code.specs.Entries.{Entry, Text, is_empty}
-use Rattle.card_unit.specs.CardCalls.{with_last}
+use Rattle.card_code.specs.Entries.{Entry, Text, has_none_left}
+use Rattle.card_unit.specs.CardCalls.{panel_after_card}
 use Rattle.disk_1311.specs.Disk.{cylinder_of}
 use Rattle.cpu_step.specs.declared.machine.Mode.TheVariants.{Running}
 use Rattle.cpu_step.specs.State.{State}
 use Rattle.cpu_step.specs.Step.{check_stop}
-use Rattle.sps_pass_two.specs.Image.{Run}
+use Rattle.sps_pass_two.specs.Image.{DigitRun}
 use Rattle.sps_pass_two.specs.Kept.{IsPiece}
 use Rattle.card_columns.specs.Orders.{order}
 use Rattle.deck_punch.specs.Cards.{transfer_card, transfer_digits}
-use Rattle.card_steps.proofs.Held.{Holds, part_held, fetch_held, first_operand}
+use Rattle.card_steps.proofs.HeldDigits.{Holds, part_held, fetch_held, first_operand}
 use Rattle.card_steps.proofs.CardsTaken.{Row}
 use Rattle.card_steps.proofs.Leading.{Leads, leads_none, leads_on, leads_then}
-use Rattle.card_steps.proofs.Laid.{laid, laid_length, laid_there, laid_elsewhere}
+use Rattle.card_steps.proofs.CardDigits.{laid, laid_length, laid_there, laid_elsewhere}
 use Rattle.card_steps.proofs.Rows.{row_B}
 use Rattle.card_columns.proofs.GoodDigits.{IsCard}
 use Rattle.card_steps.proofs.NextCard.{next_state}
@@ -58,7 +58,7 @@ arms_after arms [] = arms
 arms_after arms (s ∷ ss) = arms_after (slice_set arms 0 (cylinder_of s.from)) ss
 
 -- a deck is in the hopper but for its first card, which stands in 00000 to 00079, and the machine is at 00000
-pub record Begins (image : List Run) (start past : ℕ) (ss : List Stretch) (panel : Panel) (s : State) (rest : List Entry) : Type 0 where
+pub record Begins (image : List DigitRun) (start past : ℕ) (ss : List Stretch) (panel : Panel) (s : State) (rest : List Entry) : Type 0 where
   pub at : s.regs.ir ≡ 0
   pub running : s.mode ≡ Running
   pub quiet : check_stop s.panel ≡ None
@@ -69,23 +69,23 @@ pub record Begins (image : List Run) (start past : ℕ) (ss : List Stretch) (pan
   pub sectors : HasSectors image s.sectors
   pub stretches : AreStretches image 1 past ss
   pub hopper : s.hopper ≡ behind start ss rest
-  pub lamp : s.panel ≡ set LAST_CARD (is_empty (behind start ss rest)) panel
+  pub lamp : s.panel ≡ set LAST_CARD (has_none_left (behind start ss rest)) panel
   pub card : Holds s.core 0 (front start ss)
 
 -- the stretches stand in core, and the transfer card in 00000 to 00079
-pub record Ends (image : List Run) (start : ℕ) (ss : List Stretch) (panel : Panel) (steps : ℕ) (s : State) (rest : List Entry) (ir : ℕ) : Type 0 where
+pub record Ends (image : List DigitRun) (start : ℕ) (ss : List Stretch) (panel : Panel) (steps : ℕ) (s : State) (rest : List Entry) (ir : ℕ) : Type 0 where
   pub core : List ℕ
-  pub leads : Leads steps s (record s { core = core; hopper = rest; panel = set LAST_CARD (is_empty rest) panel; regs = on_at s.regs ir; arms = arms_after s.arms ss })
+  pub leads : Leads steps s (record s { core = core; hopper = rest; panel = set LAST_CARD (has_none_left rest) panel; regs = on_at s.regs ir; arms = arms_after s.arms ss })
   pub transfer : Holds core 0 (transfer_digits start)
   pub cells : (a : ℕ) → 80 ≤ a → get_or core a 0 ≡ in_cell image (in_any ss (hundred_of a)) a (get_or s.core a 0)
   pub long : length core ≡ length s.core
 
-cell_twice : (image : List Run) (b c : Bool) (a before : ℕ) → in_cell image c a (in_cell image b a before) ≡ in_cell image (b || c) a before
+cell_twice : (image : List DigitRun) (b c : Bool) (a before : ℕ) → in_cell image c a (in_cell image b a before) ≡ in_cell image (b || c) a before
 cell_twice image true true a before = refl
 cell_twice image true false a before = refl
 cell_twice image false c a before = refl
 
-module _ (image : List Run) (each : All IsPiece image) (past : ℕ) (most : past ≤ 600) where
+module _ (image : List DigitRun) (each : All IsPiece image) (past : ℕ) (most : past ≤ 600) where
   pub cards_load : (ss : List Stretch) (start : ℕ) (panel : Panel) (s : State) (rest : List Entry) → Begins image start past ss panel s rest → Ends image start ss panel (4 * length ss) s rest 0
   cards_load [] start panel s rest b = record {
     core = s.core;
@@ -109,11 +109,11 @@ module _ (image : List Run) (each : All IsPiece image) (past : ℕ) (most : past
       let sought : State = record s { arms = slice_set s.arms 0 (cylinder_of st.from) } in
       let s4 : State = next_state sought one.core next later in
       let armed : 1 ≤ length (slice_set s.arms 0 (cylinder_of st.from)) = let n = length-set s.arms 0 (cylinder_of st.from) in let m : 1 ≤ length s.arms = b.armed in omega arith in
-      let lamp : with_last (is_empty later) s.panel ≡ set LAST_CARD (is_empty later) panel = ap (with_last (is_empty later)) b.lamp ∙ last_set panel (is_empty later) in
+      let lamp : panel_after_card (has_none_left later) s.panel ≡ set LAST_CARD (has_none_left later) panel = ap (panel_after_card (has_none_left later)) b.lamp ∙ last_set panel (has_none_left later) in
       let more = cards_load ss start panel s4 rest (record {
         at = refl;
         running = b.running;
-        quiet = still_quiet s (is_empty later) b.quiet;
+        quiet = still_quiet s (has_none_left later) b.quiet;
         small = omega arith;
         room = omega arith;
         fits = omega arith;
@@ -125,7 +125,7 @@ module _ (image : List Run) (each : All IsPiece image) (past : ℕ) (most : past
         card = laid_there next one.core 0 (omega arith);
       }) in
       let e : 4 + 4 * length ss ≡ 4 * suc (length ss) = omega arith in
-      let last : State = record s { core = more.core; hopper = rest; panel = set LAST_CARD (is_empty rest) panel; regs = on_at s.regs 0; arms = arms_after s.arms (st ∷ ss) } in
+      let last : State = record s { core = more.core; hopper = rest; panel = set LAST_CARD (has_none_left rest) panel; regs = on_at s.regs 0; arms = arms_after s.arms (st ∷ ss) } in
       record {
         core = more.core;
         leads = rw (← e) (leads_then 4 (4 * length ss) s s4 last one.leads more.leads);
@@ -143,10 +143,10 @@ module _ (image : List Run) (each : All IsPiece image) (past : ℕ) (most : past
       let small : length s.core < 100000 = b.small in
       let d = cards_load ss start panel s rest b in
       let n : length d.core ≡ length s.core = d.long in
-      let end : State = record s { core = d.core; hopper = rest; panel = set LAST_CARD (is_empty rest) panel; regs = on_at s.regs 0; arms = arms_after s.arms ss } in
+      let end : State = record s { core = d.core; hopper = rest; panel = set LAST_CARD (has_none_left rest) panel; regs = on_at s.regs 0; arms = arms_after s.arms ss } in
       let quiet : check_stop panel ≡ None = ap check_stop (sym b.lamp) ∙ b.quiet in
       let i = part_held d.transfer 0 12 (omega arith) in
-      let entered_at : State = record s { core = d.core; hopper = rest; panel = set LAST_CARD (is_empty rest) panel; regs = on_at s.regs start; arms = arms_after s.arms ss } in
+      let entered_at : State = record s { core = d.core; hopper = rest; panel = set LAST_CARD (has_none_left rest) panel; regs = on_at s.regs start; arms = arms_after s.arms ss } in
       let jump : Row end entered_at =
       row_B end (record { at = 0; cells = order 4 9 start 0 [] }) quiet (fetch_held d.core 0 4 9 start 0 i (omega arith) (omega arith) refl)
       start (first_operand d.core 0 4 9 start 0 i (omega arith) (omega arith)) refl in

@@ -10,20 +10,20 @@ use Rattle.indicators.specs.Panel.{set}
 use Rattle.indicators.specs.Lamps.{panel_for_load}
 use Rattle.indicators.specs.declared.codes.TheConstants.{LAST_CARD}
 use Rattle.branch_ops.specs.Registers.{on_at}
-use Rattle.card_code.specs.Entries.{Entry, Text, is_empty}
-use Rattle.card_unit.specs.CardCalls.{with_last}
-use Rattle.card_unit.specs.Reader.{read_numeric}
+use Rattle.card_code.specs.Entries.{Entry, Text, has_none_left}
+use Rattle.card_unit.specs.CardCalls.{panel_after_card}
+use Rattle.card_unit.specs.Reader.{read_card_numeric}
 use Rattle.disk_1311.specs.declared.TheConstants.{DRIVES}
 use Rattle.cpu_step.specs.declared.machine.Mode.TheVariants.{Running}
 use Rattle.cpu_step.specs.State.{State}
 use Rattle.cpu_step.specs.Load.{state_for_load, load_key}
-use Rattle.sps_pass_two.specs.Image.{Run}
-use Rattle.sps_pass_two.specs.Kept.{IsPiece, IsBelow}
+use Rattle.sps_pass_two.specs.Image.{DigitRun}
+use Rattle.sps_pass_two.specs.Kept.{IsPiece, IsRunBelow}
 use Rattle.deck_punch.specs.Cards.{transfer_card, transfer_digits}
 use Rattle.deck_punch.specs.Deck.{deck_steps}
 use Rattle.card_steps.specs.Steps.{after_steps}
 use Rattle.card_steps.proofs.Leading.{deck_takes}
-use Rattle.card_steps.proofs.Laid.{laid, laid_length, laid_there, laid_elsewhere, ReadsCard, card_read}
+use Rattle.card_steps.proofs.CardDigits.{laid, laid_length, laid_there, laid_elsewhere, ReadsCard, card_read}
 use Rattle.card_columns.proofs.GoodDigits.{IsCard}
 use Rattle.card_steps.proofs.Lamps.{lamp_first, lamp_twice, quiet_first}
 use Rattle.disk_loader.specs.Hundreds.{hundred_of, is_needed}
@@ -38,15 +38,15 @@ use Rattle.disk_loader.proofs.Decks.{front, behind, front_card, deck_hopper, arm
 use Rattle.disk_loader.proofs.Fits.{IsLowest, needed_some, all_fit, in_needed, arm_stands}
 
 -- a core that is the overlay cell by cell is the overlay
-overlay_is : (image : List Run) (start : ℕ) (core new : List ℕ) → length new ≡ length core → ((a : ℕ) → get_or new a 0 ≡ disk_cell image start a (get_or core a 0)) → new ≡ disk_overlay core image start
+overlay_is : (image : List DigitRun) (start : ℕ) (core new : List ℕ) → length new ≡ length core → ((a : ℕ) → get_or new a 0 ≡ disk_cell image start a (get_or core a 0)) → new ≡ disk_overlay core image start
 unfolding disk_overlay
 overlay_is image start core new long each =
     let f : ℕ → ℕ = λ a. disk_cell image start a (get_or core a 0) in
     let k = length-map-range_with_len f 0 (length core) in
     ext_get_or 0 new _ (long ∙ sym k) (λ i l. each i ∙ sym (get_or-map-range_with_len f 0 (length core) i i 0 (omega arith) (omega arith)))
 
-module _ (image : List Run) (start m : ℕ) (s : State) (rest : List Entry) (sized : IsSize m) (long : length s.core ≡ size m) (armed : length s.arms ≡ DRIVES)
-    (each : All IsPiece image) (lowest : All IsLowest image) (under : All (IsBelow (size m)) image) (below_end : start < size m) (sectors : HasSectors image s.sectors)
+module _ (image : List DigitRun) (start m : ℕ) (s : State) (rest : List Entry) (sized : IsSize m) (long : length s.core ≡ size m) (armed : length s.arms ≡ DRIVES)
+    (each : All IsPiece image) (lowest : All IsLowest image) (under : All (IsRunBelow (size m)) image) (below_end : start < size m) (sectors : HasSectors image s.sectors)
     (hopper : s.hopper ≡ map Text (bootstrap image start) ++ rest) where
   abbrev ss : List Stretch
   ss = stretches image
@@ -80,9 +80,9 @@ module _ (image : List Run) (start m : ℕ) (s : State) (rest : List Entry) (siz
 
   -- the state that the Load key leaves
   abbrev s0 : State
-  s0 = record s { core = laid s.core 0 card; regs = on_at s.regs 0; panel = with_last (is_empty later) (panel_for_load s.panel); hopper = later; mode = Running }
+  s0 = record s { core = laid s.core 0 card; regs = on_at s.regs 0; panel = panel_after_card (has_none_left later) (panel_for_load s.panel); hopper = later; mode = Running }
 
-  first_read : ReadsCard (state_for_load s) (read_numeric (length s.core) 0 s.hopper) (laid s.core 0 card) later
+  first_read : ReadsCard (state_for_load s) (read_card_numeric (length s.core) 0 s.hopper) (laid s.core 0 card) later
   first_read = card_read later (state_for_load s) 0 card is_card.whole is_card.good (omega (arith, enough)) (hopper ∙ deck_hopper start ss rest)
 
   key_pressed : load_key s ≡ s0
@@ -96,7 +96,7 @@ module _ (image : List Run) (start m : ℕ) (s : State) (rest : List Entry) (siz
   begins = record {
     at = refl;
     running = refl;
-    quiet = quiet_first s.panel (is_empty later);
+    quiet = quiet_first s.panel (has_none_left later);
     small = omega (arith, small, carded);
     room = omega (arith, enough, carded);
     fits = omega (arith, carded, long, hundreds);
@@ -104,7 +104,7 @@ module _ (image : List Run) (start m : ℕ) (s : State) (rest : List Entry) (siz
     sectors = sectors;
     stretches = all_fit image (size m) four hundreds lowest under;
     hopper = refl;
-    lamp = lamp_first s.panel (is_empty later);
+    lamp = lamp_first s.panel (has_none_left later);
     card = laid_there card s.core 0 (let w : length card ≡ 80 = is_card.whole in omega (arith, enough));
   }
 
@@ -151,17 +151,17 @@ module _ (image : List Run) (start m : ℕ) (s : State) (rest : List Entry) (siz
 
   -- the state that the deck leaves, by the state before the Load key
   abbrev loaded_state : State
-  loaded_state = record s { core = disk_overlay s.core image start; regs = on_at s.regs start; panel = set LAST_CARD (is_empty rest) (panel_for_load s.panel); hopper = rest; mode = Running; arms = slice_set s.arms 0 (last_cylinder 0 (stretches image)) }
+  loaded_state = record s { core = disk_overlay s.core image start; regs = on_at s.regs start; panel = set LAST_CARD (has_none_left rest) (panel_for_load s.panel); hopper = rest; mode = Running; arms = slice_set s.arms 0 (last_cylinder 0 (stretches image)) }
 
   steps_made : after_steps (4 * length ss + 1) s0 ≡ loaded_state
-  steps_made = ends.leads.there ∙ (λ i. record s { core = core_is i; regs = on_at s.regs start; panel = set LAST_CARD (is_empty rest) (panel_for_load s.panel); hopper = rest; mode = Running; arms = arms_are i })
+  steps_made = ends.leads.there ∙ (λ i. record s { core = core_is i; regs = on_at s.regs start; panel = set LAST_CARD (has_none_left rest) (panel_for_load s.panel); hopper = rest; mode = Running; arms = arms_are i })
 
   leads_there : after_steps (deck_steps (length (bootstrap image start))) (load_key s) ≡ loaded_state
   leads_there = ap (after_steps (deck_steps (length (bootstrap image start)))) key_pressed ∙ ap (λ (n : ℕ). after_steps n s0) steps_are ∙ steps_made
 
   is_entered : loaded_state ≡ state_from_disk (load_key s) image start s.core rest
   is_entered =
-      (λ i. record s { core = disk_overlay s.core image start; regs = on_at s.regs start; panel = sym (lamp_twice (panel_for_load s.panel) (is_empty rest) (is_empty later)) i; hopper = rest; mode = Running; arms = slice_set s.arms 0 (last_cylinder 0 (stretches image)) })
+      (λ i. record s { core = disk_overlay s.core image start; regs = on_at s.regs start; panel = sym (lamp_twice (panel_for_load s.panel) (has_none_left rest) (has_none_left later)) i; hopper = rest; mode = Running; arms = slice_set s.arms 0 (last_cylinder 0 (stretches image)) })
       ∙ ap (λ (x : State). state_from_disk x image start s.core rest) (sym key_pressed)
 
   loads_over : DiskLoadsOver (bootstrap image start) image start (deck_steps (length (bootstrap image start))) s rest
@@ -172,12 +172,12 @@ module _ (image : List Run) (start m : ℕ) (s : State) (rest : List Entry) (siz
   }
 
 -- for each image of good digits that stand from 00100 on, and each start
-pub disk_loads : (image : List Run) (start : ℕ) → All IsPiece image → All IsLowest image → DiskLoads (bootstrap image start) image start (deck_steps (length (bootstrap image start)))
+pub disk_loads : (image : List DigitRun) (start : ℕ) → All IsPiece image → All IsLowest image → DiskLoads (bootstrap image start) image start (deck_steps (length (bootstrap image start)))
 disk_loads image start each lowest m s rest sized long armed under below_end sectors hopper = loads_over image start m s rest sized long armed each lowest under below_end sectors hopper
 
 -- the state that the deck leaves
-pub disk_loaded_from : (image : List Run) (start m : ℕ) (s : State) (rest : List Entry) → All IsPiece image → All IsLowest image → IsSize m → length s.core ≡ size m → length s.arms ≡ DRIVES → All (IsBelow (size m)) image → start < size m → HasSectors image s.sectors
+pub disk_loaded_from : (image : List DigitRun) (start m : ℕ) (s : State) (rest : List Entry) → All IsPiece image → All IsLowest image → IsSize m → length s.core ≡ size m → length s.arms ≡ DRIVES → All (IsRunBelow (size m)) image → start < size m → HasSectors image s.sectors
     → s.hopper ≡ map Text (bootstrap image start) ++ rest
     → after_steps (deck_steps (length (bootstrap image start))) (load_key s)
-    ≡ record s { core = disk_overlay s.core image start; regs = on_at s.regs start; panel = set LAST_CARD (is_empty rest) (panel_for_load s.panel); hopper = rest; mode = Running; arms = slice_set s.arms 0 (last_cylinder 0 (stretches image)) }
+    ≡ record s { core = disk_overlay s.core image start; regs = on_at s.regs start; panel = set LAST_CARD (has_none_left rest) (panel_for_load s.panel); hopper = rest; mode = Running; arms = slice_set s.arms 0 (last_cylinder 0 (stretches image)) }
 disk_loaded_from image start m s rest each lowest sized long armed under below_end sectors hopper = leads_there image start m s rest sized long armed each lowest under below_end sectors hopper

@@ -13,7 +13,7 @@ use Rattle.cpu_step.specs.State.{State}
 use Rattle.cpu_step.specs.Rows.{row_of_code, is_device}
 use Rattle.cpu_step.specs.Act.{action, on_disk}
 use Rattle.cpu_step.specs.Step.{check_stop, instruction, step}
-use Rattle.card_steps.proofs.Laid.{laid}
+use Rattle.card_steps.proofs.CardDigits.{laid}
 use Rattle.card_steps.proofs.CardsTaken.{Row}
 use Rattle.disk_loader.proofs.Sectors.{after_stored, stored_outside, AllTexts, joined, sectors_read}
 

@@ -4,8 +4,8 @@ use Rattle.std.proofs.lemmas.Bool.Decides.{nat_tests}
 use Rattle.digit_core.specs.Cell.{unflagged_digit}
 use Rattle.addr_indirect.specs.Reading.{decimals_up}
 use Rattle.disk_1311.specs.Control.{number_of_digits, control_of, on_drives, control_field}
-use Rattle.card_steps.proofs.Held.{Holds, head_held, tail_held, decimal_held}
-use Rattle.disk_loader.specs.Bootstrap.{control}
+use Rattle.card_steps.proofs.HeldDigits.{Holds, head_held, tail_held, decimal_held}
+use Rattle.disk_loader.specs.Bootstrap.{control_field_of}
 
 -- each of the numbers is a decimal digit
 abbrev pub Decimal : List ℕ → Type 0
@@ -77,7 +77,7 @@ module _ (drive h c a : ℕ) (drive_small : drive ≤ 9) (h_small : h < 100000) 
       let test : (nat_le 1 drive && nat_le drive drives) ≡ true = grind (arith, nat_tests) in
       rw test refl
 
-  pub control_held : (core : List ℕ) (p drives : ℕ) → Holds core p (control drive h c a []) → 1 ≤ drive → drive ≤ drives →
+  pub control_held : (core : List ℕ) (p drives : ℕ) → Holds core p (control_field_of drive h c a []) → 1 ≤ drive → drive ≤ drives →
       control_field core p drives ≡ Ok (record { drive = drive; sector = h; count = c; address = a })
   unfolding control_field
   control_held core p drives held some most =

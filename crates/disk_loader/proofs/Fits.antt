@@ -7,29 +7,29 @@ use Rattle.std.proofs.lemmas.Bool.Decides.{nat_tests}
 use Rattle.std.specs.Prelude.{is_some}
 use Rattle.std.specs.List.{range_with_len}
 use Rattle.disk_1311.specs.Disk.{cylinder_of}
-use Rattle.sps_pass_two.specs.Image.{Run, declared_digit}
-use Rattle.sps_pass_two.specs.Kept.{IsBelow}
+use Rattle.sps_pass_two.specs.Image.{DigitRun, declared_digit}
+use Rattle.sps_pass_two.specs.Kept.{IsRunBelow}
 use Rattle.deck_punch.proofs.Declaring.{below, above}
 use Rattle.disk_loader.specs.Hundreds.{holds_tables, holds_declared, is_needed}
 use Rattle.disk_loader.specs.declared.deck.Stretch.{Stretch}
 use Rattle.disk_loader.specs.Stretches.{stretches}
 use Rattle.disk_loader.specs.DiskLoads.{last_cylinder}
 use Rattle.disk_loader.specs.Cover.{IsStretch, AreStretches, in_any}
-use Rattle.disk_loader.proofs.Needed.{stretches_are, in_stretches}
+use Rattle.disk_loader.proofs.StretchHundreds.{stretches_are, in_stretches}
 use Rattle.disk_loader.proofs.Decks.{arms_after}
 
 -- nothing is declared below 00100, where no hundred is loaded
-abbrev pub IsLowest : Run → Type 0
+abbrev pub IsLowest : DigitRun → Type 0
 IsLowest r = 100 ≤ r.from
 
-nothing_below : (image : List Run) → All IsLowest image → (a : ℕ) → a < 100 → declared_digit image a ≡ None
+nothing_below : (image : List DigitRun) → All IsLowest image → (a : ℕ) → a < 100 → declared_digit image a ≡ None
 unfolding declared_digit
 nothing_below [] all a h = refl
 nothing_below (r ∷ rs) all a h =
     let low : 100 ≤ r.from = all 0 r (omega arith) in
     rw (nothing_below rs (λ k e l. all (suc k) e (omega arith)) a h, below r a (omega arith)) refl
 
-nothing_above : (n : ℕ) (image : List Run) → All (IsBelow n) image → (a : ℕ) → n ≤ a → declared_digit image a ≡ None
+nothing_above : (n : ℕ) (image : List DigitRun) → All (IsRunBelow n) image → (a : ℕ) → n ≤ a → declared_digit image a ≡ None
 unfolding declared_digit
 nothing_above n [] all a h = refl
 nothing_above n (r ∷ rs) all a h =
@@ -37,7 +37,7 @@ nothing_above n (r ∷ rs) all a h =
     rw (nothing_above n rs (λ k e l. all (suc k) e (omega arith)) a h, above r a (omega arith)) refl
 
 -- a hundred without a declared address
-hundred_free : (image : List Run) (k : ℕ) → ((a : ℕ) → 100 * k ≤ a → a < 100 * k + 100 → declared_digit image a ≡ None) → holds_declared image k ≡ false
+hundred_free : (image : List DigitRun) (k : ℕ) → ((a : ℕ) → 100 * k ≤ a → a < 100 * k + 100 → declared_digit image a ≡ None) → holds_declared image k ≡ false
 unfolding holds_declared
 hundred_free image k none =
     list_any_none (λ a. is_some (declared_digit image a)) (range_with_len (100 * k) 100)
@@ -45,7 +45,7 @@ hundred_free image k none =
     let n : i < 100 = rw length-range_with_len at l in
     rw (get_or-range_with_len (100 * k) 100 i e n, none (100 * k + i) (omega arith) (omega arith)) refl)
 
-module _ (image : List Run) (n : ℕ) (enough : 400 ≤ n) (hundreds : 100 * (n / 100) ≡ n) (lowest : All IsLowest image) (under : All (IsBelow n) image) where
+module _ (image : List DigitRun) (n : ℕ) (enough : 400 ≤ n) (hundreds : 100 * (n / 100) ≡ n) (lowest : All IsLowest image) (under : All (IsRunBelow n) image) where
   -- the first hundred, and those past the end, are not needed
   not_first : is_needed image 0 ≡ false
   not_first = rw (hundred_free image 0 (λ a l h. nothing_below image lowest a (omega arith))) refl
@@ -106,5 +106,5 @@ some_arms : (ss : List Stretch) (arms : List ℕ) (k : ℕ) → in_any ss k ≡ 
 some_arms [] arms k h = cc
 some_arms (s ∷ ss) arms k h = arms_last ss arms (cylinder_of s.from)
 
-pub arm_stands : (image : List Run) (arms : List ℕ) → in_any (stretches image) 1 ≡ is_needed image 1 → arms_after arms (stretches image) ≡ slice_set arms 0 (last_cylinder 0 (stretches image))
+pub arm_stands : (image : List DigitRun) (arms : List ℕ) → in_any (stretches image) 1 ≡ is_needed image 1 → arms_after arms (stretches image) ≡ slice_set arms 0 (last_cylinder 0 (stretches image))
 arm_stands image arms is = some_arms (stretches image) arms 1 is

@@ -10,37 +10,37 @@ use Rattle.branch_ops.specs.Registers.{on_at}
 use Rattle.card_code.specs.Entries.{Entry}
 use Rattle.disk_1311.specs.Disk.{arm_of, cylinder_of}
 use Rattle.cpu_step.specs.State.{State}
-use Rattle.sps_pass_two.specs.Image.{Run}
+use Rattle.sps_pass_two.specs.Image.{DigitRun}
 use Rattle.sps_pass_two.specs.Kept.{IsPiece}
 use Rattle.card_columns.specs.Orders.{order, address}
 use Rattle.deck_punch.specs.Cards.{read_and_go}
 use Rattle.card_columns.proofs.GoodDigits.{Good, decimal_is_good, good_address, IsCard, good_order, good_zeros}
-use Rattle.card_steps.proofs.Held.{Holds, part_held, same_held, fetch_held, first_operand}
+use Rattle.card_steps.proofs.HeldDigits.{Holds, part_held, same_held, fetch_held, first_operand}
 use Rattle.card_steps.proofs.CardsTaken.{Row, row_to}
 use Rattle.card_steps.proofs.Leading.{Leads, leads_on}
-use Rattle.card_steps.proofs.Laid.{laid, laid_length, laid_there, laid_elsewhere}
+use Rattle.card_steps.proofs.CardDigits.{laid, laid_length, laid_there, laid_elsewhere}
 use Rattle.card_steps.proofs.NextCard.{Ready, next_state, read_and_jump}
 use Rattle.disk_loader.specs.Hundreds.{hundred_of, digit_on_disk}
 use Rattle.disk_loader.specs.declared.deck.Stretch.{Stretch}
-use Rattle.disk_loader.specs.Bootstrap.{three, control, stretch_digits}
+use Rattle.disk_loader.specs.Bootstrap.{three, control_field_of, stretch_digits}
 use Rattle.disk_loader.specs.DiskLoads.{HasSectors}
 use Rattle.disk_loader.proofs.Fields.{control_held}
 use Rattle.disk_loader.proofs.Sectors.{AllTexts, joined}
 use Rattle.disk_loader.proofs.DiskRows.{row_SK, row_RDN}
-use Rattle.disk_loader.proofs.Loaded.{hundred_digits, hundred_length, hundred_good, joined_length, joined_digit}
+use Rattle.disk_loader.proofs.LoadedDigits.{hundred_digits, hundred_length, hundred_good, joined_length, joined_digit}
 use Rattle.disk_loader.specs.Cover.{IsStretch, in_stretch}
 
 -- the card of a stretch is a card
 good_three : (c : ℕ) (ds : List Digit) → Good ds → Good (three c ds)
 good_three c ds g = (decimal_is_good (c / 100 % 10) (omega arith), (decimal_is_good (c / 10 % 10) (omega arith), (decimal_is_good (c % 10) (omega arith), g)))
 
-good_control : (h c a : ℕ) (ds : List Digit) → Good ds → Good (control 1 h c a ds)
+good_control : (h c a : ℕ) (ds : List Digit) → Good ds → Good (control_field_of 1 h c a ds)
 good_control h c a ds g = (decimal_is_good 1 (omega arith), good_address h (three c (address a ds)) (good_three c (address a ds) (good_address a ds g)))
 
 pub stretch_is_card : (s : Stretch) → IsCard (stretch_digits s)
 unfolding stretch_digits
 stretch_is_card s =
-    let field : List Digit = control 1 s.from s.count (100 * s.from) (replicate 18 (unflagged_digit 0)) in
+    let field : List Digit = control_field_of 1 s.from s.count (100 * s.from) (replicate 18 (unflagged_digit 0)) in
     let g : Good field = good_control s.from s.count (100 * s.from) (replicate 18 (unflagged_digit 0)) (good_zeros 18 [] tt) in
     record {
       whole = refl;
@@ -51,24 +51,24 @@ stretch_is_card s =
     }
 
 -- the most that a stretch can have: a cylinder
-level_few : (image : List Run) (first past : ℕ) (s : Stretch) → IsStretch image first past s → s.count ≤ 200
+level_few : (image : List DigitRun) (first past : ℕ) (s : Stretch) → IsStretch image first past s → s.count ≤ 200
 level_few image first past s is =
     let some : 1 ≤ s.count = is.some in
     let last : (s.from + (s.count - 1)) / 200 ≡ s.from / 200 = is.level (s.count - 1) (omega arith) in
     omega arith
 
 -- the cell at an address in a core to which a stretch, or some of them, was loaded
-abbrev pub in_cell : List Run → Bool → ℕ → ℕ → ℕ
+abbrev pub in_cell : List DigitRun → Bool → ℕ → ℕ → ℕ
 in_cell image inside a before = if inside then cell (digit_on_disk image a) else before
 
 -- the stretch stands in core, the next card in 00000 to 00079, and the machine is at 00000 again
-pub record StretchLoads (image : List Run) (s : State) (st : Stretch) (next : List Digit) (rest : List Entry) : Type 0 where
+pub record StretchLoads (image : List DigitRun) (s : State) (st : Stretch) (next : List Digit) (rest : List Entry) : Type 0 where
   pub core : List ℕ
   pub cells : (a : ℕ) → get_or core a 0 ≡ in_cell image (in_stretch st (hundred_of a)) a (get_or s.core a 0)
   pub long : length core ≡ length s.core
   pub leads : Leads 4 s (next_state (record s { arms = slice_set s.arms 0 (cylinder_of st.from) }) core next rest)
 
-module _ (image : List Run) (each : All IsPiece image) where
+module _ (image : List DigitRun) (each : All IsPiece image) where
   -- the cells once the digits of a stretch are laid
   stretch_cells : (core : List ℕ) (st : Stretch) → 100 * (st.from + st.count) ≤ length core → (a : ℕ) →
       get_or (laid core (100 * st.from) (joined (hundred_digits image each) st.from st.count)) a 0 ≡ in_cell image (in_stretch st (hundred_of a)) a (get_or core a 0)

@@ -12,8 +12,8 @@ use Rattle.digit_core.specs.Cell.{cell, unflagged_digit, zero_cell}
 use Rattle.digit_core.specs.Size.{size}
 use Rattle.digit_core.specs.Standard.{standard_digit}
 use Rattle.disk_1311.specs.Disk.{cylinder_of}
-use Rattle.sps_pass_two.specs.Image.{Run, declared_digit}
-use Rattle.sps_pass_two.specs.Kept.{IsBelow}
+use Rattle.sps_pass_two.specs.Image.{DigitRun, declared_digit}
+use Rattle.sps_pass_two.specs.Kept.{IsRunBelow}
 use Rattle.deck_punch.specs.Overlay.{cell_or, overlay_cell, overlay}
 use Rattle.disk_loader.specs.Hundreds.{hundred_of, holds_tables, holds_declared, is_needed, digit_or, digit_on_disk}
 use Rattle.disk_loader.specs.declared.deck.Stretch.{Stretch}
@@ -24,7 +24,7 @@ use Rattle.disk_loader.specs.DiskLoads.{last_cylinder}
 use Rattle.disk_loader.proofs.Fits.{IsLowest, needed_some, all_fit}
 
 -- a declared address stands in a hundred that is needed
-holds_there : (image : List Run) (a : ℕ) → is_some (declared_digit image a) ≡ true → holds_declared image (hundred_of a) ≡ true
+holds_there : (image : List DigitRun) (a : ℕ) → is_some (declared_digit image a) ≡ true → holds_declared image (hundred_of a) ≡ true
 unfolding holds_declared
 holds_there image a some =
     let n : a - 100 * (a / 100) < 100 = omega arith in
@@ -39,12 +39,12 @@ second_holds false b is not = cc
 first_holds : (a b : Bool) → a ≡ true → (a || b) ≡ false → ⊥
 first_holds a b is not = let t : (true || b) ≡ false = rw is at not in cc
 
-undeclared : (image : List Run) (a : ℕ) (o : Option Digit) → declared_digit image a ≡ o → is_needed image (hundred_of a) ≡ false → o ≡ None
+undeclared : (image : List DigitRun) (a : ℕ) (o : Option Digit) → declared_digit image a ≡ o → is_needed image (hundred_of a) ≡ false → o ≡ None
 undeclared image a None is not = refl
 undeclared image a (Some d) is not = absurd (second_holds (holds_tables (hundred_of a)) (holds_declared image (hundred_of a)) (holds_there image a (ap is_some is)) not)
 
 -- no table stands in a hundred that is not needed
-no_table : (image : List Run) (a : ℕ) → is_needed image (hundred_of a) ≡ false → (nat_le 100 a && nat_lt a 400) ≡ false
+no_table : (image : List DigitRun) (a : ℕ) → is_needed image (hundred_of a) ≡ false → (nat_le 100 a && nat_lt a 400) ≡ false
 no_table image a not =
     elim (cases_lt a 100) [
       | inl low ↦ grind (arith, nat_tests)
@@ -63,7 +63,7 @@ needed_cell (Some e) table d = refl
 needed_cell None true d = refl
 needed_cell None false d = refl
 
-module _ (image : List Run) (start n : ℕ) (enough : 400 ≤ n) (hundreds : 100 * (n / 100) ≡ n) (lowest : All IsLowest image) (under : All (IsBelow n) image) where
+module _ (image : List DigitRun) (start n : ℕ) (enough : 400 ≤ n) (hundreds : 100 * (n / 100) ≡ n) (lowest : All IsLowest image) (under : All (IsRunBelow n) image) where
   same_cell : (a : ℕ) → disk_cell image start a zero_cell ≡ overlay_cell image start a zero_cell
   unfolding digit_on_disk
   same_cell a = by_need (is_needed image (hundred_of a)) refl
@@ -91,7 +91,7 @@ module _ (image : List Run) (start n : ℕ) (enough : 400 ≤ n) (hundreds : 100
       ∙ sym (get_or-map-range_with_len g 0 (length core) i i 0 below (omega arith)))
 
 -- the arm stays where it was at power on, where each hundred is one of the first cylinder
-no_move : (image : List Run) (ss : List Stretch) → AreStretches image 1 200 ss → last_cylinder 0 ss ≡ 0
+no_move : (image : List DigitRun) (ss : List Stretch) → AreStretches image 1 200 ss → last_cylinder 0 ss ≡ 0
 no_move image [] are = refl
 no_move image (s ∷ ss) are =
     let some : 1 ≤ s.count = are.0.some in
@@ -99,5 +99,5 @@ no_move image (s ∷ ss) are =
     let e : cylinder_of s.from ≡ 0 = omega arith in
     ap (λ (c : ℕ). last_cylinder c ss) e ∙ no_move image ss are.1
 
-pub first_cylinder : (image : List Run) → All IsLowest image → All (IsBelow (size 1)) image → last_cylinder 0 (stretches image) ≡ 0
+pub first_cylinder : (image : List DigitRun) → All IsLowest image → All (IsRunBelow (size 1)) image → last_cylinder 0 (stretches image) ≡ 0
 first_cylinder image lowest under = no_move image (stretches image) (all_fit image (size 1) (omega arith) refl lowest under)

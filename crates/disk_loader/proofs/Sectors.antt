@@ -17,7 +17,7 @@ use Rattle.cpu_step.specs.State.{State}
 use Rattle.cpu_step.specs.Effects.{after, of_disk}
 use Rattle.cpu_step.specs.Outside.{all_outside}
 use Rattle.card_columns.proofs.GoodDigits.{Good}
-use Rattle.card_steps.proofs.Laid.{laid, laid_length}
+use Rattle.card_steps.proofs.CardDigits.{laid, laid_length}
 
 -- digits stored from a upwards, as what the disk does
 abbrev pub stored : ℕ → List Digit → List DiskEffect

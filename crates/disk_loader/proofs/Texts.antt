@@ -12,10 +12,10 @@ use Rattle.digit_core.specs.Cell.{unflagged_digit}
 use Rattle.card_code.specs.Characters.{object_char}
 use Rattle.sps_pass_two.specs.declared.image.Piece.{Piece}
 use Rattle.sps_pass_two.specs.Types.{run_of}
-use Rattle.sps_pass_two.specs.Image.{Run, digit_at, declared_digit, or_else}
+use Rattle.sps_pass_two.specs.Image.{DigitRun, digit_at, declared_digit, or_else}
 use Rattle.card_columns.specs.Orders.{nth}
 use Rattle.deck_punch.proofs.Declaring.{below, above, within, declared_joined}
-use Rattle.disk_loader.specs.Hundreds.{char_over, digit_or, digit_beneath, digit_on_disk, hundred_text, holds_tables, holds_declared, is_needed, reaches, sector_in}
+use Rattle.disk_loader.specs.Hundreds.{char_over, digit_or, digit_beneath, digit_on_disk, hundred_text, holds_tables, holds_declared, is_needed, reaches, needed_sector}
 
 -- WHAT STANDS BENEATH
 
@@ -38,11 +38,11 @@ beneath_all from text i long end so_far =
 -- A PIECE
 
 -- the characters of a run below an address are laid over an old text, and those from there on are not
-pub record LaidBelow (run : Run) (from a : ℕ) (old text : List ℕ) : Type 0 where
+pub record LaidBelow (run : DigitRun) (from a : ℕ) (old text : List ℕ) : Type 0 where
   pub done : (i : ℕ) → i < 100 → from + i < a → get_or text i 0 ≡ char_over (digit_at run (from + i)) (get_or old i 0)
   pub left : (i : ℕ) → i < 100 → a ≤ from + i → get_or text i 0 ≡ get_or old i 0
 
-module _ (run : Run) (from : ℕ) where
+module _ (run : DigitRun) (from : ℕ) where
   abbrev pub low : ℕ
   low = max run.from from
 
@@ -104,7 +104,7 @@ module _ (run : Run) (from : ℕ) where
 -- THE PIECES SO FAR
 
 -- one more piece declares what it has
-declared_on : (gs : List Run) (r : Run) (a : ℕ) → declared_digit (gs ++ r ∷ []) a ≡ or_else (digit_at r a) (declared_digit gs a)
+declared_on : (gs : List DigitRun) (r : DigitRun) (a : ℕ) → declared_digit (gs ++ r ∷ []) a ≡ or_else (digit_at r a) (declared_digit gs a)
 unfolding declared_digit
 declared_on gs r a = declared_joined gs (r ∷ []) a
 
@@ -113,7 +113,7 @@ char_of (Some e) p d = refl
 char_of None p d = refl
 
 -- the text of a hundred with these pieces
-pub record HasText (gs : List Run) (from : ℕ) (text : List ℕ) : Type 0 where
+pub record HasText (gs : List DigitRun) (from : ℕ) (text : List ℕ) : Type 0 where
   pub long : length text ≡ 100
   pub chars : (i : ℕ) → i < 100 → get_or text i 0 ≡ object_char (digit_on_disk gs (from + i))
 
@@ -126,7 +126,7 @@ text_first from text is =
       chars = λ i l. ap (λ (t : List ℕ). get_or t i 0) is ∙ get_or-map-range_with_len f from 100 i (from + i) 0 l refl;
     }
 
-pub text_on : (gs : List Run) (r : Run) (from : ℕ) (text new : List ℕ) → length new ≡ 100 → ((i : ℕ) → i < 100 → get_or new i 0 ≡ char_over (digit_at r (from + i)) (get_or text i 0)) → HasText gs from text → HasText (gs ++ r ∷ []) from new
+pub text_on : (gs : List DigitRun) (r : DigitRun) (from : ℕ) (text new : List ℕ) → length new ≡ 100 → ((i : ℕ) → i < 100 → get_or new i 0 ≡ char_over (digit_at r (from + i)) (get_or text i 0)) → HasText gs from text → HasText (gs ++ r ∷ []) from new
 unfolding digit_on_disk
 text_on gs r from text new long over has = record {
   long = long;
@@ -136,7 +136,7 @@ text_on gs r from text new long over has = record {
       ∙ ap (λ (o : Option Digit). object_char (digit_or o (digit_beneath (from + i)))) (sym (declared_on gs r (from + i)));
 }
 
-pub text_all : (gs : List Run) (h : ℕ) (text : List ℕ) → HasText gs (100 * h) text → text ≡ hundred_text gs h
+pub text_all : (gs : List DigitRun) (h : ℕ) (text : List ℕ) → HasText gs (100 * h) text → text ≡ hundred_text gs h
 text_all gs h text has =
     let f : ℕ → Digit = digit_on_disk gs in
     let k : length (map object_char (map f (range_with_len (100 * h) 100))) ≡ 100 = length-map (map f (range_with_len (100 * h) 100)) object_char ∙ length-map-range_with_len f (100 * h) 100 in
@@ -158,7 +158,7 @@ swapped false true false d = refl
 swapped false false true d = refl
 swapped false false false d = refl
 
-any_either : (gs : List Run) (r : Run) (xs : List ℕ) → list_any (λ a. is_some (declared_digit (gs ++ r ∷ []) a)) xs ≡ (list_any (λ a. is_some (digit_at r a)) xs || list_any (λ a. is_some (declared_digit gs a)) xs)
+any_either : (gs : List DigitRun) (r : DigitRun) (xs : List ℕ) → list_any (λ a. is_some (declared_digit (gs ++ r ∷ []) a)) xs ≡ (list_any (λ a. is_some (digit_at r a)) xs || list_any (λ a. is_some (declared_digit gs a)) xs)
 any_either gs r [] = refl
 any_either gs r (x ∷ xs) =
     rw (declared_on gs r x, some_either (digit_at r x) (declared_digit gs x), any_either gs r xs)
@@ -170,7 +170,7 @@ moved_out true false c = refl
 moved_out false b c = refl
 
 -- one more piece needs what it reaches
-pub needed_on : (gs : List Run) (r : Run) (h : ℕ) → is_needed (gs ++ r ∷ []) h ≡ (reaches r (100 * h) || is_needed gs h)
+pub needed_on : (gs : List DigitRun) (r : DigitRun) (h : ℕ) → is_needed (gs ++ r ∷ []) h ≡ (reaches r (100 * h) || is_needed gs h)
 unfolding holds_declared reaches
 needed_on gs r h =
     ap (λ (b : Bool). holds_tables h || b) (any_either gs r (range_with_len (100 * h) 100))
@@ -199,59 +199,59 @@ pieces_on pieces i piece more is =
     ∙ map-append run_of (take i pieces) (get_or pieces i piece ∷ [])
     ∙ ap (λ (p : Piece). map run_of (take i pieces) ++ run_of p ∷ []) (sym is)
 
-pub pieces_all : (pieces : List Piece) (i : ℕ) (image : List Run) → length pieces ≤ i → map run_of pieces ≡ image → map run_of (take i pieces) ≡ image
+pub pieces_all : (pieces : List Piece) (i : ℕ) (image : List DigitRun) → length pieces ≤ i → map run_of pieces ≡ image → map run_of (take i pieces) ≡ image
 pieces_all pieces i image past are = ap (map run_of) (take_all i pieces past) ∙ are
 
-sector_of : (image : List Run) (h : ℕ) (b : Bool) → is_needed image h ≡ b → sector_in image h ≡ (if b then Some (hundred_text image h) else None)
+sector_of : (image : List DigitRun) (h : ℕ) (b : Bool) → is_needed image h ≡ b → needed_sector image h ≡ (if b then Some (hundred_text image h) else None)
 sector_of image h b is = rw is refl
 
 -- all pieces are laid: the hundred is needed, or not
-pub some_in : (gs image : List Run) (h : ℕ) (text : List ℕ) {b : Bool} → gs ≡ image → HasText gs (100 * h) text → b ≡ is_needed gs h → b ≡ true → Some text ≡ sector_in image h
+pub some_in : (gs image : List DigitRun) (h : ℕ) (text : List ℕ) {b : Bool} → gs ≡ image → HasText gs (100 * h) text → b ≡ is_needed gs h → b ≡ true → Some text ≡ needed_sector image h
 some_in gs image h text {b} are has need is =
-    let n : is_needed image h ≡ true = ap (λ (g : List Run). is_needed g h) (sym are) ∙ sym need ∙ is in
-    ap (λ (t : List ℕ). Some t) (text_all gs h text has ∙ ap (λ (g : List Run). hundred_text g h) are) ∙ sym (sector_of image h true n)
+    let n : is_needed image h ≡ true = ap (λ (g : List DigitRun). is_needed g h) (sym are) ∙ sym need ∙ is in
+    ap (λ (t : List ℕ). Some t) (text_all gs h text has ∙ ap (λ (g : List DigitRun). hundred_text g h) are) ∙ sym (sector_of image h true n)
 
-pub none_in : (gs image : List Run) (h : ℕ) {b : Bool} → gs ≡ image → b ≡ is_needed gs h → b ≡ false → None ≡ sector_in image h
+pub none_in : (gs image : List DigitRun) (h : ℕ) {b : Bool} → gs ≡ image → b ≡ is_needed gs h → b ≡ false → None ≡ needed_sector image h
 none_in gs image h {b} are need is =
-    let n : is_needed image h ≡ false = ap (λ (g : List Run). is_needed g h) (sym are) ∙ sym need ∙ is in
+    let n : is_needed image h ≡ false = ap (λ (g : List DigitRun). is_needed g h) (sym are) ∙ sym need ∙ is in
     sym (sector_of image h false n)
 
 -- what was found needed by the pieces is needed by their image
-pub needed_all : (gs image : List Run) (h : ℕ) {b : Bool} → gs ≡ image → b ≡ is_needed gs h → b ≡ is_needed image h
-needed_all gs image h are need = need ∙ ap (λ (g : List Run). is_needed g h) are
+pub needed_all : (gs image : List DigitRun) (h : ℕ) {b : Bool} → gs ≡ image → b ≡ is_needed gs h → b ≡ is_needed image h
+needed_all gs image h are need = need ∙ ap (λ (g : List DigitRun). is_needed g h) are
 
 -- and what a sector's text tells of it
 abbrev text_or : Option (List ℕ) → List ℕ
 text_or (Some t) = t
 text_or None = []
 
-told_some : (image : List Run) (h : ℕ) (text : List ℕ) (b : Bool) → (if b then Some (hundred_text image h) else None) ≡ Some text → (b ≡ true) × (text ≡ hundred_text image h)
+told_some : (image : List DigitRun) (h : ℕ) (text : List ℕ) (b : Bool) → (if b then Some (hundred_text image h) else None) ≡ Some text → (b ≡ true) × (text ≡ hundred_text image h)
 told_some image h text true e = (refl, ap text_or (sym e))
 told_some image h text false e = absurd (cc)
 
-told_none : (image : List Run) (h : ℕ) (b : Bool) → (if b then Some (hundred_text image h) else None) ≡ None → b ≡ false
+told_none : (image : List DigitRun) (h : ℕ) (b : Bool) → (if b then Some (hundred_text image h) else None) ≡ None → b ≡ false
 told_none image h true e = absurd (cc)
 told_none image h false e = refl
 
-pub in_some : (image : List Run) (h : ℕ) (text : List ℕ) → sector_in image h ≡ Some text → (is_needed image h ≡ true) × (text ≡ hundred_text image h)
+pub in_some : (image : List DigitRun) (h : ℕ) (text : List ℕ) → needed_sector image h ≡ Some text → (is_needed image h ≡ true) × (text ≡ hundred_text image h)
 in_some image h text e = told_some image h text (is_needed image h) e
 
-pub in_none : (image : List Run) (h : ℕ) → sector_in image h ≡ None → is_needed image h ≡ false
+pub in_none : (image : List DigitRun) (h : ℕ) → needed_sector image h ≡ None → is_needed image h ≡ false
 in_none image h e = told_none image h (is_needed image h) e
 
 -- the pieces reach the hundred with this one, or as they did before
-pub needed_yes : (gs more : List Run) (r : Run) (h : ℕ) {reached now : Bool} → more ≡ gs ++ r ∷ [] → reached ≡ reaches r (100 * h) → reached ≡ true → now ≡ true → now ≡ is_needed more h
+pub needed_yes : (gs more : List DigitRun) (r : DigitRun) (h : ℕ) {reached now : Bool} → more ≡ gs ++ r ∷ [] → reached ≡ reaches r (100 * h) → reached ≡ true → now ≡ true → now ≡ is_needed more h
 needed_yes gs more r h are is by so =
-    so ∙ sym (ap (λ (g : List Run). is_needed g h) are ∙ needed_on gs r h ∙ ap (λ (b : Bool). b || is_needed gs h) (sym is ∙ by))
+    so ∙ sym (ap (λ (g : List DigitRun). is_needed g h) are ∙ needed_on gs r h ∙ ap (λ (b : Bool). b || is_needed gs h) (sym is ∙ by))
 
-pub needed_no : (gs more : List Run) (r : Run) (h : ℕ) {reached was now : Bool} → more ≡ gs ++ r ∷ [] → reached ≡ reaches r (100 * h) → reached ≡ false → was ≡ is_needed gs h → now ≡ was → now ≡ is_needed more h
+pub needed_no : (gs more : List DigitRun) (r : DigitRun) (h : ℕ) {reached was now : Bool} → more ≡ gs ++ r ∷ [] → reached ≡ reaches r (100 * h) → reached ≡ false → was ≡ is_needed gs h → now ≡ was → now ≡ is_needed more h
 needed_no gs more r h are is by before so =
-    so ∙ before ∙ sym (ap (λ (g : List Run). is_needed g h) are ∙ needed_on gs r h ∙ ap (λ (b : Bool). b || is_needed gs h) (sym is ∙ by))
+    so ∙ before ∙ sym (ap (λ (g : List DigitRun). is_needed g h) are ∙ needed_on gs r h ∙ ap (λ (b : Bool). b || is_needed gs h) (sym is ∙ by))
 
-some_by : (image : List Run) (h : ℕ) (b : Bool) → is_some (if b then Some (hundred_text image h) else None) ≡ b
+some_by : (image : List DigitRun) (h : ℕ) (b : Bool) → is_some (if b then Some (hundred_text image h) else None) ≡ b
 some_by image h true = refl
 some_by image h false = refl
 
 -- a hundred's sector has a text where the hundred is needed
-pub some_told : (image : List Run) (h : ℕ) → is_some (sector_in image h) ≡ is_needed image h
+pub some_told : (image : List DigitRun) (h : ℕ) → is_some (needed_sector image h) ≡ is_needed image h
 some_told image h = some_by image h (is_needed image h)

@@ -1,7 +1,7 @@
 -- Needed hundreds that follow one another on one cylinder: what one card loads.
 use Rattle.std.specs.Prelude.{ℕ, zero, suc, Bool, ◌+◌, ◌==◌, ◌&&◌, nat_lt, List, [], ◌∷◌, if◌then◌else◌}
 use Rattle.disk_1311.specs.Disk.{cylinder_of}
-use Rattle.sps_pass_two.specs.Image.{Run}
+use Rattle.sps_pass_two.specs.Image.{DigitRun}
 use Rattle.disk_loader.specs.declared.deck.Stretch.{Stretch}
 use Rattle.disk_loader.specs.declared.hundreds.TheConstants.{HUNDREDS}
 use Rattle.disk_loader.specs.Hundreds.{is_needed}
@@ -20,15 +20,15 @@ onto_stretch h (s ∷ ss) =
     if joins h s then record { from = h; count = suc s.count } ∷ ss else one_hundred h ∷ s ∷ ss
 
 -- the stretches of so many hundreds from h on, rising
-unfoldable pub stretches_from : List Run → ℕ → ℕ → List Stretch
+unfoldable pub stretches_from : List DigitRun → ℕ → ℕ → List Stretch
 stretches_from image h zero = []
 stretches_from image h (suc n) =
     if is_needed image h then onto_stretch h (stretches_from image (h + 1) n) else stretches_from image (h + 1) n
 
 -- those of the largest core
-abbrev pub stretches : List Run → List Stretch
+abbrev pub stretches : List DigitRun → List Stretch
 stretches image = stretches_from image 0 HUNDREDS
 
 -- a hundred goes on a stretch that has one, and ends before it, where its sector stands on the same cylinder
-abbrev pub goes_on : Stretch → ℕ → Bool
-goes_on s h = nat_lt 0 s.count && (cylinder_of s.from == cylinder_of h)
+abbrev pub extends_stretch : Stretch → ℕ → Bool
+extends_stretch s h = nat_lt 0 s.count && (cylinder_of s.from == cylinder_of h)

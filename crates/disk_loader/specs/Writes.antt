@@ -4,7 +4,7 @@ use Rattle.outside_io.specs.World.{World, Seen, Rose, Goes, with_sector}
 use Rattle.outside_io.specs.declared.whole.Sent.{Sent}
 use Rattle.outside_io.specs.declared.whole.Sent.TheVariants as sent
 use Rattle.disk_1311.specs.Disk.{host_sector}
-use Rattle.sps_pass_two.specs.Image.{Run}
+use Rattle.sps_pass_two.specs.Image.{DigitRun}
 use Rattle.disk_loader.specs.declared.hundreds.TheConstants.{HUNDREDS}
 use Rattle.disk_loader.specs.Hundreds.{is_needed, hundred_text}
 
@@ -14,18 +14,18 @@ pub record SectorText : Type 0 where
   pub text : List ℕ
 
 -- the sector of a hundred stands on drive 1
-abbrev pub hundred_sector : List Run → ℕ → SectorText
+abbrev pub hundred_sector : List DigitRun → ℕ → SectorText
 hundred_sector image h = record { sector = host_sector 1 h; text = hundred_text image h }
 
 -- the sectors of the needed hundreds among so many from h on, rising
-unfoldable pub sectors_from : List Run → ℕ → ℕ → List SectorText
-sectors_from image h zero = []
-sectors_from image h (suc n) =
-    if is_needed image h then hundred_sector image h ∷ sectors_from image (h + 1) n else sectors_from image (h + 1) n
+unfoldable pub needed_sectors : List DigitRun → ℕ → ℕ → List SectorText
+needed_sectors image h zero = []
+needed_sectors image h (suc n) =
+    if is_needed image h then hundred_sector image h ∷ needed_sectors image (h + 1) n else needed_sectors image (h + 1) n
 
 -- those of the largest core
-abbrev pub image_sectors : List Run → List SectorText
-image_sectors image = sectors_from image 0 HUNDREDS
+abbrev pub image_sectors : List DigitRun → List SectorText
+image_sectors image = needed_sectors image 0 HUNDREDS
 
 -- the pack's sectors once these were written, one after another; all others are as before
 abbrev pub sectors_after : List SectorText → (ℕ → List ℕ) → ℕ → List ℕ

@@ -8,7 +8,7 @@ ghost use Rattle.deck_punch.specs.Deck.{deck_steps};
 ghost use Rattle.card_columns.specs.Types.{card_bytes};
 ghost use Rattle.disk_loader.specs.Bootstrap.{stretch_card, closed_cards};
 ghost use Rattle.disk_loader.specs.BootstrapDeck.{AreBootstrapOf, LoadFromDisk};
-ghost use Rattle.disk_loader.specs.Stretches.{goes_on};
+ghost use Rattle.disk_loader.specs.Stretches.{extends_stretch};
 ghost use Rattle.disk_loader.specs.Cover.{StretchLaw};
 ghost use Rattle.disk_loader.specs.declared.hundreds.TheConstants.{HUNDREDS};
 
@@ -58,7 +58,7 @@ pub fn bootstrap(alloc: Global, assembled: &Assembled) -> Result<Vec<Card>, Allo
         if !is_needed(assembled, h) {
             close(&mut cards, open)?;
             open = Stretch { from: 0, count: 0 };
-        } else if goes_on(open, h) {
+        } else if extends_stretch(open, h) {
             open.count += 1;
         } else {
             close(&mut cards, open)?;
@@ -79,8 +79,8 @@ pub fn stretch_law()
 {}
 
 // Whether the hundred `h`, the next one, is of the same stretch.
-fn goes_on(stretch: Stretch, h: u32) -> bool
-    ensures { result ≡ goes_on stretch h }
+fn extends_stretch(stretch: Stretch, h: u32) -> bool
+    ensures { result ≡ extends_stretch stretch h }
 {
     stretch.count > 0 && stretch.from / CYLINDER_SECTORS == h / CYLINDER_SECTORS
 }

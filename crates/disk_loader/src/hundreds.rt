@@ -4,10 +4,10 @@ ghost use Rattle.std.specs.List.{range_with_len};
 ghost use Rattle.digit_core.specs.{IsGood};
 ghost use Rattle.card_code.specs.Characters.{object_char};
 ghost use Rattle.sps_pass_two.specs.Image.{digit_at};
-ghost use Rattle.sps_pass_two.specs.Kept.{IsPiece, IsBelow};
+ghost use Rattle.sps_pass_two.specs.Kept.{IsPiece, IsRunBelow};
 ghost use Rattle.sps_pass_two.specs.Types.{run_of};
 ghost use Rattle.digit_core.specs.declared.TheConstants.{MOST_POSITIONS};
-ghost use Rattle.disk_loader.specs.Hundreds.{char_over, digit_beneath, holds_tables, is_needed, reaches, sector_in};
+ghost use Rattle.disk_loader.specs.Hundreds.{char_over, digit_beneath, holds_tables, is_needed, reaches, needed_sector};
 
 use card_code::object_char;
 use digit_core::{Digit, standard_digit};
@@ -23,7 +23,7 @@ pub(crate) const HUNDREDS: u32 = 600;
 /// Source: this project's own.
 pub fn sector_text(assembled: &Assembled, h: u32) -> Option<[u8; 100]>
     requires { h < HUNDREDS }
-    ensures { result ≡ sector_in assembled.now.image.pieces h }
+    ensures { result ≡ needed_sector assembled.now.image.pieces h }
 {
     let from = 100 * h;
     let mut text = beneath(from);
@@ -86,7 +86,7 @@ fn digit_beneath(a: u32) -> Digit
 // Whether a piece has an address in the hundred that begins at `from`.
 fn reaches(piece: &Piece, from: u32) -> bool
     requires from { from < MOST_POSITIONS }
-    requires below { IsBelow MOST_POSITIONS (run_of piece.now) }
+    requires below { IsRunBelow MOST_POSITIONS (run_of piece.now) }
     ensures { result ≡ reaches (run_of piece.now) from }
 {
     let digits = piece.digits.as_slice();
@@ -99,7 +99,7 @@ fn reaches(piece: &Piece, from: u32) -> bool
 fn lay(piece: &Piece, from: u32, text: &mut [u8; 100]) -> bool
     requires from { from < MOST_POSITIONS }
     requires piece { IsPiece (run_of piece.now) }
-    requires below { IsBelow MOST_POSITIONS (run_of piece.now) }
+    requires below { IsRunBelow MOST_POSITIONS (run_of piece.now) }
     ensures text { (i : ℕ) → i < 100 → slice_index text.new i ≡ char_over (digit_at (run_of piece.now) (from + i)) (slice_index text.old i) }
     ensures reaches { result ≡ reaches (run_of piece.now) from }
 {

@@ -5,7 +5,7 @@ use Rattle.std.specs.Prelude.{if◌then◌else◌, bit_xor}
 use lib.Count.{ones}
 use Rattle.digit_core.specs.Cell.{cell, has_flag, value_in}
 use Rattle.digit_core.specs.Packed.{six}
-use Rattle.digit_core.specs.Search.{is_bad}
+use Rattle.digit_core.specs.Search.{is_bad_cell}
 use Rattle.digit_core.specs.Within.{AreGood, EndsField}
 use Rattle.digit_core.proofs.Below.{same_below}
 use Rattle.digit_core.proofs.Sixes.{six_cat_low, six_cat_high, six_of_high}
@@ -14,16 +14,16 @@ use Rattle.feature_ops.specs.Five.{FiveAreGood, AreUnflagged, EndsAmong}
 
 -- a good cell with its flag turned round is the cell of the same value
 abbrev turned : ℕ → ℕ
-turned c = if is_bad c then 0 else bit_xor c 48
+turned c = if is_bad_cell c then 0 else bit_xor c 48
 
 abbrev other : ℕ → ℕ
-other c = if is_bad c then 0 else cell (record { flag = not (has_flag c); value = value_in c })
+other c = if is_bad_cell c then 0 else cell (record { flag = not (has_flag c); value = value_in c })
 
 each_turned : (c : ℕ) → c < 64 → turned c ≡ other c
 unfolding cell ones
 each_turned c below = same_below turned other 64 c 0 refl below
 
-pub flag_turns : (c : ℕ) → c < 64 → is_bad c ≡ false → bit_xor c 48 ≡ cell (record { flag = not (has_flag c); value = value_in c })
+pub flag_turns : (c : ℕ) → c < 64 → is_bad_cell c ≡ false → bit_xor c 48 ≡ cell (record { flag = not (has_flag c); value = value_in c })
 flag_turns c below good = let e = each_turned c below in rw good at e
 
 small_turned : (c : ℕ) → c < 64 → bit_xor c 48 < 64

@@ -1,5 +1,5 @@
 pub mod Cycles
-mod Sound
+mod SoundTurns
 pub mod Sums
 pub mod Flags
 pub mod Turns

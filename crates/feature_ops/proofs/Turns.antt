@@ -5,9 +5,9 @@ use Rattle.std.proofs.lemmas.Bool.{cases_eq}
 use Rattle.std.specs.Prelude.{Result, ⊤, if◌then◌else◌, count_ones}
 use Rattle.digit_core.specs.declared.Digit.{Digit}
 use Rattle.digit_core.specs.declared.CellFault.TheVariants.{EvenParity, BadValue}
-use Rattle.digit_core.specs.Cell.{cell, unflagged_digit, store, with_flag, read_cell, digit_of_cell, value_in, is_value}
+use Rattle.digit_core.specs.Cell.{cell, unflagged_digit, store, with_flag, read_cell, digit_of_cell, value_in, is_cell_value}
 use Rattle.digit_core.specs.Packed.{six}
-use Rattle.digit_core.specs.Search.{is_bad}
+use Rattle.digit_core.specs.Search.{is_bad_cell}
 use Rattle.digit_core.specs.Written.{core_with_word}
 use Rattle.digit_core.proofs.Digits.{cell-read_cell}
 use Rattle.digit_core.proofs.Sixes.{six_of_high}
@@ -19,7 +19,7 @@ use Rattle.traces.specs.Trace.{Trace}
 use Rattle.traces.specs.Stored.{Stored, Did, Rest}
 use Rattle.feature_ops.specs.declared.TheConstants.{NUMBER_ZONE}
 use Rattle.feature_ops.specs.Feature.{strip_cycles, fill_cycles, core_with_pair}
-use Rattle.feature_ops.specs.Five.{IsPlain, IsFlagged, flagged_digit, AreApart, AreStripped, AreFilled, AreLastStripped, AreLastFilled}
+use Rattle.feature_ops.specs.Five.{IsPlain, IsFlagged, flagged_digit, ArePairsApart, AreStripped, AreFilled, AreLastStripped, AreLastFilled}
 
 -- who does the rest does the whole
 pub rest_done : (core core0 new : List ℕ) (t t0 : Trace Stored ⊤ Stop) (r : Result ⊤ Stop) → Rest core t core0 t0 → Did core t new r
@@ -37,9 +37,9 @@ tested_ok true good d h = cc
 tested_ok false true d h = refl
 tested_ok false false d h = cc
 
-good_reads : (c : ℕ) → is_bad c ≡ false → read_cell c ≡ Ok (digit_of_cell c)
+good_reads : (c : ℕ) → is_bad_cell c ≡ false → read_cell c ≡ Ok (digit_of_cell c)
 unfolding read_cell
-good_reads c h = tested_ok (count_ones c % 2 == 0) (is_value (value_in c)) (digit_of_cell c) h
+good_reads c h = tested_ok (count_ones c % 2 == 0) (is_cell_value (value_in c)) (digit_of_cell c) h
 
 pub six_small : (w j : ℕ) → six w j < 64
 six_small w j = omega arith
@@ -82,7 +82,7 @@ core_at k core place n w j = core_with_word core (place + k * j) (k * (n - j)) (
 
 -- a good cell beside them is read as it was
 read_beside : (k : ℕ) (core : List ℕ) (place n w j a : ℕ) → a < length core → (a < place + k * j) ⊎ (place + k * j + k * (n - j) ≤ a)
-    → is_bad (get_or core a 0) ≡ false → read_at (core_at k core place n w j) a ≡ Ok (digit_of_cell (get_or core a 0))
+    → is_bad_cell (get_or core a 0) ≡ false → read_at (core_at k core place n w j) a ≡ Ok (digit_of_cell (get_or core a 0))
 read_beside k core place n w j a inside beside good =
     let from = place + k * j in
     let rest = w / 2 ^ (6 * (k * j)) in
@@ -165,7 +165,7 @@ module _ (core : List ℕ) (pairs q : ℕ) (d : Digit) (reads : read_at core q �
   unfolding fill_cycles
   fill_end flag = rw (reads, flag) (record { leaves = refl; answers = refl })
 
-module _ (core : List ℕ) (pairs left n w : ℕ) (p_room : 2 * pairs ≤ length core) (q_room : left ≤ length core) (apart : AreApart pairs left n) where
+module _ (core : List ℕ) (pairs left n w : ℕ) (p_room : 2 * pairs ≤ length core) (q_room : left ≤ length core) (apart : ArePairsApart pairs left n) where
   on_p : n ≤ pairs
   on_p = apart.p
 
@@ -183,12 +183,12 @@ module _ (core : List ℕ) (pairs left n w : ℕ) (p_room : 2 * pairs ≤ length
     abbrev stripping : List ℕ
     stripping = core_at 1 core (left - n) n w (suc j)
 
-    digit_read : is_bad (get_or core at_p 0) ≡ false → read_at stripping at_p ≡ Ok (digit_of_cell (get_or core at_p 0))
+    digit_read : is_bad_cell (get_or core at_p 0) ≡ false → read_at stripping at_p ≡ Ok (digit_of_cell (get_or core at_p 0))
     digit_read =
         read_beside 1 core (left - n) n w (suc j) at_p (omega (arith, l, on_p, p_room))
         (elim apart.apart [ inl x ↦ inr (omega (arith, l, on_p, on_q)) | inr x ↦ inl (omega (arith, l, on_p, on_q)) ])
 
-    old_read : is_bad (get_or core at_q 0) ≡ false → read_at stripping at_q ≡ Ok (digit_of_cell (get_or core at_q 0))
+    old_read : is_bad_cell (get_or core at_q 0) ≡ false → read_at stripping at_q ≡ Ok (digit_of_cell (get_or core at_q 0))
     old_read = read_beside 1 core (left - n) n w (suc j) at_q (omega (arith, l, on_q, q_room)) (inl (omega arith))
 
     stripped : (d : Digit) → six w j ≡ cell d → store stripping at_q d ≡ core_at 1 core (left - n) n w j
@@ -208,7 +208,7 @@ module _ (core : List ℕ) (pairs left n w : ℕ) (p_room : 2 * pairs ≤ length
     abbrev filling : List ℕ
     filling = core_at 2 core (2 * (pairs - n)) n w (suc j)
 
-    source_read : is_bad (get_or core at_q 0) ≡ false → read_at filling at_q ≡ Ok (digit_of_cell (get_or core at_q 0))
+    source_read : is_bad_cell (get_or core at_q 0) ≡ false → read_at filling at_q ≡ Ok (digit_of_cell (get_or core at_q 0))
     source_read =
         read_beside 2 core (2 * (pairs - n)) n w (suc j) at_q (omega (arith, l, on_q, q_room))
         (elim apart.apart [ inl x ↦ inl (omega (arith, l, on_p, on_q)) | inr x ↦ inr (omega (arith, l, on_p, on_q)) ])

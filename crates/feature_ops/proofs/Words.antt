@@ -4,14 +4,14 @@ use Rattle.std.proofs.lemmas.Bool.{cases_lt}
 use Rattle.std.specs.Prelude.{bit_xor}
 use Rattle.digit_core.specs.Cell.{cell, unflagged_digit, has_flag, value_in}
 use Rattle.digit_core.specs.Packed.{six, HasCells}
-use Rattle.digit_core.specs.Search.{is_bad}
+use Rattle.digit_core.specs.Search.{is_bad_cell}
 use Rattle.digit_core.specs.Within.{AreGood, AreGoodUpTo}
 use Rattle.digit_core.specs.Written.{core_with_word}
 use Rattle.digit_core.proofs.Sixes.{six_of_high, six_of_low}
 use Rattle.digit_core.proofs.Writing.{written_out}
 use Rattle.feature_ops.specs.declared.TheConstants.{NUMBER_ZONE}
 use Rattle.feature_ops.specs.declared.fives.Turn.{Turn}
-use Rattle.feature_ops.specs.Five.{AreOdd, AreZoned, IsPlain, IsFlagged, AreApart, AreStillApart, EndsAmong, AreStripped, AreLastStripped, AreLastFilled, FiveAreGood, Strips, StripsOf, IsNextTen, Fills, FillsOf}
+use Rattle.feature_ops.specs.Five.{AreOdd, AreZoned, IsPlain, IsFlagged, ArePairsApart, AreStillApart, EndsAmong, AreStripped, AreLastStripped, AreLastFilled, FiveAreGood, Strips, StripsOf, IsNextTen, Fills, FillsOf}
 use Rattle.feature_ops.proofs.Flags.{flag_turns, joined, joined_low, joined_high}
 use Rattle.feature_ops.proofs.Turns.{six_small}
 
@@ -61,7 +61,7 @@ odd_joined core pairs w v low high some low_small high_small lows low_odd highs 
     ]
 
 -- a part of what lies apart
-fewer_apart : (pairs left n m : ℕ) → m ≤ n → AreApart pairs left n → AreApart pairs left m
+fewer_apart : (pairs left n m : ℕ) → m ≤ n → ArePairsApart pairs left n → ArePairsApart pairs left m
 fewer_apart pairs left n m fewer a =
     let on_p : n ≤ pairs = a.p in
     let on_q : n ≤ left = a.q in
@@ -76,14 +76,14 @@ highest core place top n m word fewer on cells j l =
     rw e at (cells (n - m + j) (omega (arith, fewer)))
 
 -- a cell with its flag turned round
-turned : (w j c : ℕ) (flag : Bool) → is_bad (six w j) ≡ false → has_flag (six w j) ≡ flag → six w j ≡ c
+turned : (w j c : ℕ) (flag : Bool) → is_bad_cell (six w j) ≡ false → has_flag (six w j) ≡ flag → six w j ≡ c
     → bit_xor (six w j) 48 ≡ cell (record { flag = not flag; value = value_in c })
 turned w j c flag good flagged is =
     flag_turns (six w j) (six_small w j) good ∙ ap (λ b. cell (record { flag = not b; value = value_in (six w j) })) flagged
     ∙ ap (λ x. cell (record { flag = not flag; value = value_in x })) is
 
 -- a turn takes the highest m of n good cells of a word, which are the n below a position
-module _ (core : List ℕ) (pairs left n m olds : ℕ) (some : 1 ≤ m) (most : m ≤ n) (apart : AreApart pairs left n)
+module _ (core : List ℕ) (pairs left n m olds : ℕ) (some : 1 ≤ m) (most : m ≤ n) (apart : ArePairsApart pairs left n)
     (cells : HasCells olds core (left - n) n) (good : AreGoodUpTo olds n) where
   place : (j : ℕ) → j < m → n - m + j < n
   place j l = omega (arith, most)
@@ -110,7 +110,7 @@ module _ (core : List ℕ) (pairs left n m olds : ℕ) (some : 1 ≤ m) (most : 
     old_lowest : six olds (n - m) ≡ get_or core (left - m) 0
     old_lowest = rw (first_place, first_left) at (old_cell 0 some)
 
-    old_good : is_bad (six olds (n - m)) ≡ false
+    old_good : is_bad_cell (six olds (n - m)) ≡ false
     old_good = good (n - m) (omega (arith, some, most))
 
     old_ends : IsFlagged (get_or core (left - m) 0)
@@ -154,7 +154,7 @@ module _ (core : List ℕ) (pairs left n m olds : ℕ) (some : 1 ≤ m) (most : 
         }
 
 -- what two words say of a turn of a strip
-pub strips_of : (core : List ℕ) (pairs left n olds digits : ℕ) (turn : Turn) → n ≤ 10 → AreApart pairs left n
+pub strips_of : (core : List ℕ) (pairs left n olds digits : ℕ) (turn : Turn) → n ≤ 10 → ArePairsApart pairs left n
     → HasCells olds core (left - n) n → HasDigits digits core pairs n
     → AreGoodUpTo olds n → ((j : ℕ) → j < n → IsPlain (six digits j)) → StripsOf n olds digits turn → Strips core pairs left turn
 strips_of core pairs left n olds digits turn ten apart cells are good plains s =
@@ -170,7 +170,7 @@ strips_of core pairs left n olds digits turn ten apart cells are good plains s =
     }
 
 -- what one says of a turn of a fill
-pub fills_of : (core : List ℕ) (pairs left five whole : ℕ) (turn : Turn) → AreApart pairs left 5 → HasCells five core (left - 5) 5
+pub fills_of : (core : List ℕ) (pairs left five whole : ℕ) (turn : Turn) → ArePairsApart pairs left 5 → HasCells five core (left - 5) 5
     → FillsOf five whole turn → Fills core pairs left turn
 fills_of core pairs left five whole turn apart cells s = record {
   apart = fewer_apart pairs left 5 turn.count s.most apart;
@@ -191,7 +191,7 @@ fills_of core pairs left five whole turn apart cells s = record {
       (s.others h) (s.zones h);
 }
 
-rest_apart : (pairs left : ℕ) → AreStillApart pairs left → AreApart pairs left 5
+rest_apart : (pairs left : ℕ) → AreStillApart pairs left → ArePairsApart pairs left 5
 rest_apart pairs left a = record { p = a.p; q = a.q; apart = elim a.apart [ inl x ↦ inl (omega arith) | inr x ↦ inr (omega arith) ] }
 
 -- the two turns of ten digits of a fill

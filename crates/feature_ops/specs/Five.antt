@@ -3,7 +3,7 @@ use Rattle.std.specs.Prelude.{ℕ, ◌≡◌, ◌+◌, ◌-◌, ◌*◌, ◌/◌
 use Rattle.digit_core.specs.declared.Digit.{Digit}
 use Rattle.digit_core.specs.Cell.{cell, unflagged_digit, has_flag, value_in}
 use Rattle.digit_core.specs.Packed.{six, HasCells}
-use Rattle.digit_core.specs.Search.{is_bad}
+use Rattle.digit_core.specs.Search.{is_bad_cell}
 use Rattle.feature_ops.specs.declared.TheConstants.{NUMBER_ZONE}
 use Rattle.digit_core.specs.Within.{AreGood}
 use Rattle.feature_ops.specs.declared.fives.Turn.{Turn}
@@ -19,25 +19,25 @@ pub record AreZoned (ten five : ℕ) : Type 0 where
 
 -- a cell that holds an unflagged digit
 abbrev pub IsPlain : ℕ → Type 0
-IsPlain c = (is_bad c ≡ false) × (has_flag c ≡ false)
+IsPlain c = (is_bad_cell c ≡ false) × (has_flag c ≡ false)
 
 -- one that holds a flagged digit, and the same digit with a flag
 abbrev pub IsFlagged : ℕ → Type 0
-IsFlagged c = (is_bad c ≡ false) × (has_flag c ≡ true)
+IsFlagged c = (is_bad_cell c ≡ false) × (has_flag c ≡ true)
 
 abbrev pub flagged_digit : ℕ → Digit
 flagged_digit c = record { flag = true; value = value_in c }
 
 -- the lowest five cells of a word hold digits
 abbrev pub FiveAreGood : ℕ → Type 0
-FiveAreGood five = (j : ℕ) → j < 5 → is_bad (six five j) ≡ false
+FiveAreGood five = (j : ℕ) → j < 5 → is_bad_cell (six five j) ≡ false
 
 -- none of a word's lowest nine cells has a flag
 abbrev pub AreUnflagged : ℕ → Type 0
 AreUnflagged w = (j : ℕ) → j < 9 → has_flag (six w j) ≡ false
 
 -- the highest n of so many pairs, and of so many positions, share no cell
-pub record AreApart (pairs left n : ℕ) : Type 0 where
+pub record ArePairsApart (pairs left n : ℕ) : Type 0 where
   pub p : n ≤ pairs
   pub q : n ≤ left
   pub apart : (left + 2 * n ≤ 2 * pairs) ⊎ (2 * pairs + n ≤ left)
@@ -78,7 +78,7 @@ pub record AreLastFilled (core : List ℕ) (pairs left n cells : ℕ) : Type 0 w
 
 -- a turn of a strip has the cells that its next cycles leave, or those of its last ones
 pub record Strips (core : List ℕ) (pairs left : ℕ) (turn : Turn) : Type 0 where
-  pub apart : AreApart pairs left turn.count
+  pub apart : ArePairsApart pairs left turn.count
   pub some : 1 ≤ turn.count
   pub most : turn.count ≤ 10
   pub on : turn.ends ≡ false → AreStripped core pairs left turn.count turn.cells
@@ -86,7 +86,7 @@ pub record Strips (core : List ℕ) (pairs left : ℕ) (turn : Turn) : Type 0 wh
 
 -- and a turn of a fill, likewise
 pub record Fills (core : List ℕ) (pairs left : ℕ) (turn : Turn) : Type 0 where
-  pub apart : AreApart pairs left turn.count
+  pub apart : ArePairsApart pairs left turn.count
   pub some : 1 ≤ turn.count
   pub most : turn.count ≤ 5
   pub on : turn.ends ≡ false → AreFilled core pairs left turn.count turn.cells
@@ -94,7 +94,7 @@ pub record Fills (core : List ℕ) (pairs left : ℕ) (turn : Turn) : Type 0 whe
 
 -- the ten cells below a position are good, and the highest five share no cell with the next five pairs
 pub record IsNextTen (core : List ℕ) (pairs left ten : ℕ) : Type 0 where
-  pub apart : AreApart pairs left 5
+  pub apart : ArePairsApart pairs left 5
   pub room : 10 ≤ left
   pub cells : HasCells ten core (left - 10) 10
   pub good : AreGood ten

@@ -1,7 +1,7 @@
 // Digits five and ten at a time, by the words that hold them.
 ghost use Rattle.std.specs.Prelude.{◌≡◌, ◌≢◌, ℕ, ◌+◌, ◌*◌, ◌/◌, ◌≤◌, ◌<◌, ◌^◌, true, false, IfSome, bit_xor};
 ghost use Rattle.digit_core.specs.{size, six, has_flag};
-ghost use Rattle.feature_ops.specs.Five.{AreOdd, AreZoned, FiveAreGood, AreUnflagged, AreApart, AreStillApart, Strips, StripsOf, IsNextTen, FillsOf};
+ghost use Rattle.feature_ops.specs.Five.{AreOdd, AreZoned, FiveAreGood, AreUnflagged, ArePairsApart, AreStillApart, Strips, StripsOf, IsNextTen, FillsOf};
 
 use digit_core::{Core, are_good, field_in};
 
@@ -136,7 +136,7 @@ pub(crate) fn rest_of_word(n: u32, word: u32) -> u32
 fn are_apart(pairs: u32, left: u32, n: u32) -> bool
     requires pairs { 2 * pairs < 2 ^ 32 }
     requires ten { n ≤ 10 }
-    ensures apart { result ≡ true → AreApart pairs left n }
+    ensures apart { result ≡ true → ArePairsApart pairs left n }
     ensures ten { result ≡ true → 10 ≤ left }
 {
     if pairs < n || left < 10 {

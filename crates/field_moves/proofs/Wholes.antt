@@ -5,8 +5,8 @@ use Rattle.std.proofs.lemmas.List.Elements.{All-get_or}
 use Rattle.std.proofs.lemmas.Bool.Decides.{nat_tests}
 use Rattle.digit_core.specs.declared.Digit.{Digit}
 use Rattle.digit_core.specs.declared.CellFault.TheVariants.{EvenParity, BadValue}
-use Rattle.digit_core.specs.Cell.{read_cell, is_value, has_flag}
-use Rattle.digit_core.specs.Search.{has_mark, is_bad, first_up, flag_below, mark_above, first_bad}
+use Rattle.digit_core.specs.Cell.{read_cell, is_cell_value, has_flag}
+use Rattle.digit_core.specs.Search.{has_mark, is_bad_cell, first_up, flag_below, mark_above, first_bad}
 use Rattle.digit_core.specs.Copied.{core_after_copy}
 use Rattle.digit_core.proofs.Passing.{said_down, said_up}
 use Rattle.digit_core.specs.Packed.{six}
@@ -28,9 +28,9 @@ tested_good false true d h = refl
 tested_good false false d h = cc
 
 -- a cell that is not bad is good
-not_bad : (c : ℕ) → c < 64 → is_bad c ≡ false → IsGoodCell c
+not_bad : (c : ℕ) → c < 64 → is_bad_cell c ≡ false → IsGoodCell c
 unfolding read_cell
-not_bad c small h = (small, tested_good (count_ones c % 2 == 0) (is_value (c % 16)) _ h)
+not_bad c small h = (small, tested_good (count_ones c % 2 == 0) (is_cell_value (c % 16)) _ h)
 
 -- the cells that moved are those that were copied
 moved_copied : (core new : List ℕ) (to from n : ℕ) → AreMoved core new to from n → new ≡ core_after_copy core to from n
@@ -66,8 +66,8 @@ module _ (core : List ℕ) (small : All (λ c. c < 64) core) where
   all_good : (a b : ℕ) → a ≤ b → b < length core → None ≡ first_bad core a b → (k : ℕ) → a ≤ k → k ≤ b → IsGoodCell (get_or core k 0)
   all_good a b order high none k low le =
       let up : nat_le a b ≡ true = grind (arith, nat_tests) in
-      let f : None ≡ first_up is_bad core a (b + 1 - a) = rw up at none in
-      let s = said_up is_bad core a (b + 1 - a) None f in
+      let f : None ≡ first_up is_bad_cell core a (b + 1 - a) = rw up at none in
+      let s = said_up is_bad_cell core a (b + 1 - a) None f in
       not_bad (get_or core k 0) (All-get_or (λ c. c < 64) core k 0 (omega arith) small) (s k low (omega arith))
 
   pub field_found : (q e : ℕ) → q < length core → Some e ≡ flag_below core q → None ≡ first_bad core e q → IsField core q (q - e + 1)
@@ -108,12 +108,12 @@ six_small : (w j : ℕ) → six w j < 64
 six_small w j = omega arith
 
 -- a good cell that was read within a word
-good_within : (w j c : ℕ) → six w j ≡ c → is_bad (six w j) ≡ false → IsGoodCell c
+good_within : (w j c : ℕ) → six w j ≡ c → is_bad_cell (six w j) ≡ false → IsGoodCell c
 good_within w j c e good = not_bad c (rw e at (six_small w j)) (rw e at good)
 
 -- a field whose units are the highest cell of a word, and the move of its cells
 module _ (core new : List ℕ) (p q n w : ℕ) (p_high : p < length core) (low : 9 ≤ q) (high : q < length core) (cells : (j : ℕ) → j < 10 → six w j ≡ get_or core (q - 9 + j) 0)
-    (ends : EndsField w n) (good : (j : ℕ) → 10 - n ≤ j → j < 10 → is_bad (six w j) ≡ false) where
+    (ends : EndsField w n) (good : (j : ℕ) → 10 - n ≤ j → j < 10 → is_bad_cell (six w j) ≡ false) where
   field_cell : (i j : ℕ) → i + j ≡ 9 → six w j ≡ get_or core (q - i) 0
   field_cell i j e = let f : q - 9 + j ≡ q - i = omega arith in rw f at (cells j (omega arith))
 
@@ -145,7 +145,7 @@ module _ (core new : List ℕ) (p q n w : ℕ) (p_high : p < length core) (low :
 
 -- a record whose first digit is the lowest cell of a word, and the move of its cells
 module _ (core new : List ℕ) (p q n w : ℕ) (p_high : p < length core) (high : q + 10 ≤ length core) (cells : (j : ℕ) → j < 10 → six w j ≡ get_or core (q + j) 0)
-    (ends : EndsRecord w n) (good : (j : ℕ) → j < n → is_bad (six w j) ≡ false) where
+    (ends : EndsRecord w n) (good : (j : ℕ) → j < n → is_bad_cell (six w j) ≡ false) where
   record_within : IsRecord core q n
   record_within =
       let some : 1 ≤ n = ends.some in

@@ -3,7 +3,7 @@ use Rattle.std.specs.Prelude.{◌≡◌, ℕ, Bool, true, false, List, String, O
 use Rattle.std.specs.declared.alloc.Global.{Global}
 use Rattle.std.specs.Fmt.Cut.{IsTextOrCut}
 use Rattle.outside_io.specs.World.{Seen}
-use Rattle.outside_io.specs.Real.{Finishes}
+use Rattle.outside_io.specs.Real.{FinishesFiles}
 use Rattle.outside_io.specs.declared.whole.Sent.{Sent}
 use Rattle.outside_io.specs.declared.whole.Sent.TheVariants.{Done, Failed}
 use Rattle.ibm1620_cli.specs.declared.status.Status.{Status}
@@ -11,8 +11,8 @@ use Rattle.ibm1620_cli.specs.declared.status.Status.TheVariants.{HostFault, OutO
 use Rattle.ibm1620_cli.specs.declared.answer.Answer.{Answer}
 use Rattle.ibm1620_cli.specs.Job.{word_bytes}
 use Rattle.ibm1620_cli.specs.Answers.{AnswersJob}
-use Rattle.ibm1620_cli.specs.Report.{code_of}
-use Rattle.job_messages.specs.declared.messages.Ending.{Ending}
+use Rattle.ibm1620_cli.specs.Report.{exit_code_of}
+use Rattle.job_messages.specs.declared.messages.JobEnding.{JobEnding}
 use Rattle.job_messages.specs.declared.messages.Message.{Message}
 use Rattle.job_messages.specs.Messages.{IsMessageOf, is_empty, message_text}
 use Rattle.finished_job.specs.declared.job.TheConstants.{MESSAGE_ROOM}
@@ -32,7 +32,7 @@ status_after status Failed = HostFault
 -- the files are finished
 pub record EndsFinished (status : Status) (old new : Seen) (ended : Status) : Type 0 where
   pub sent : Sent
-  pub finishes : Finishes old new sent
+  pub finishes : FinishesFiles old new sent
   pub is : ended ≡ status_after status sent
 
 -- whether a job of this status leaves its files as they are: the host failed, memory was lacking, or the words were not plain
@@ -55,7 +55,7 @@ pub record SaysText (text : Option (List ℕ)) (old new : Option (List (List ℕ
   pub says : Says old new piece
 
 -- what there is to say of a job with these words that ended so is said: nothing where the message is empty, and else its text
-pub record SaysEnding (ending : Ending) (words : List (String Global)) (old new : Option (List (List ℕ))) : Type 0 where
+pub record SaysEnding (ending : JobEnding) (words : List (String Global)) (old new : Option (List (List ℕ))) : Type 0 where
   pub message : Message
   pub is : IsMessageOf ending (word_bytes words) message
   pub says : MatchBool (is_empty message) (new ≡ old) (SaysText (message_text message) old new)
@@ -65,11 +65,11 @@ pub record SaysEnding (ending : Ending) (words : List (String Global)) (old new 
 pub record FinishesJob (words : List (String Global)) (asks_console : Bool) (old new : Seen) (said_old said_new : Option (List (List ℕ))) (code : ℕ) : Type 0 where
   pub answer : Answer
   pub between : Seen
-  pub ending : Ending
+  pub ending : JobEnding
   pub answers : AnswersJob (word_bytes words) old between answer
   pub ends : EndsJob answer.status between new ending.status
   pub of_answer : ending.answer.now ≡ answer
   pub asks : ending.asks_console ≡ asks_console
   pub loses : LosesCards new.world ending.lost_cards
   pub says : SaysEnding ending words said_old said_new
-  pub code_is : code ≡ code_of ending.status
+  pub code_is : code ≡ exit_code_of ending.status

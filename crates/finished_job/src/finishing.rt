@@ -1,6 +1,6 @@
 // Hosts whose files are finished.
 ghost use Rattle.std.specs.Prelude.{◌≡◌};
-ghost use Rattle.outside_io.specs.Real.{Finishes as EndsFiles, real_seen};
+ghost use Rattle.outside_io.specs.Real.{FinishesFiles as EndsFiles, real_seen};
 ghost use Rattle.outside_io.specs.Mem.{mem_seen};
 
 use outside_io::{Host, Lockable, MemHost, RealHost, Sent, Trouble};

@@ -10,7 +10,7 @@ use crate::finishing::Finishes;
 use crate::sink::Sink;
 use command_line::Read;
 use ibm1620_cli::{Status, ibm1620_read};
-use job_messages::{Ending, Message};
+use job_messages::{JobEnding, Message};
 use outside_io::Sent;
 use std::alloc::Global;
 use std::fmt::InlineText;
@@ -58,7 +58,7 @@ pub fn do_read_job<H: Finishes, S: Sink>(
     let status = finished(host, answer.status);
     let lost_cards = host.cards();
     let trouble = host.trouble();
-    let ending = Ending {
+    let ending = JobEnding {
         status,
         answer: &answer,
         trouble,
@@ -95,7 +95,7 @@ fn leaves_files(status: Status) -> bool
 // Says what there is to say of a job that ended so.
 #[cold]
 #[inline(never)]
-fn say_ending<S: Sink>(alloc: Global, read: &Read<'_>, ending: Ending<'_>, errors: &mut S)
+fn say_ending<S: Sink>(alloc: Global, read: &Read<'_>, ending: JobEnding<'_>, errors: &mut S)
     ensures { SaysEnding ending.entry read.now.words.now (S.said errors.old) (S.said errors.new) }
 {
     let message = Message::of(ending, read);

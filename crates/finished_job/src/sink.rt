@@ -39,20 +39,20 @@ impl<W: Write> Sink for OnErrors<W> {
 
 /// A sink in memory, for tests. It tells the pieces that were said, until memory for one is wanting; from then on it tells nothing.
 #[derive(Drop)]
-pub struct Said {
+pub struct MemorySink {
     alloc: Global,
     pieces: Vec<Vec<u8>>,
     tells: bool,
 }
 
-impl Said {
+impl MemorySink {
     ghost use Rattle.finished_job.specs.Said.{bytes_of_pieces, said_pieces};
 
     /// A sink on which nothing was said.
     pub fn new(alloc: Global) -> Self
         ensures { said_pieces result ≡ Some [] }
     {
-        Said {
+        MemorySink {
             alloc,
             pieces: Vec::new(alloc),
             tells: true,
@@ -85,7 +85,7 @@ impl Said {
     }
 }
 
-impl Sink for Said {
+impl Sink for MemorySink {
     ghost use Rattle.finished_job.specs.Said.{said_pieces};
 
     ghost said = { said_pieces };

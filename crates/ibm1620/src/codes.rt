@@ -1,31 +1,31 @@
 // The codes that jobs over files end with, and what they say, in the folder where the test runs.
 use crate::job::do_over_files;
 use crate::tests::words_from;
-use finished_job::Said;
+use finished_job::MemorySink;
 use std::fs;
 
 // A job over `FILES` and the file `endless`, its code, and what is said.
-struct Row {
+struct CodeRow {
     words: &'static [&'static str],
     code: u8,
     said: &'static str,
 }
 
 // One job for each code that a job over files can be made to end with.
-const ROWS: [Row; 18] = [
-    Row {
+const ROWS: [CodeRow; 18] = [
+    CodeRow {
         words: &[
             "load", "--deck", "halts", "--typed", "typed", "--report", "said",
         ],
         code: 0,
         said: "",
     },
-    Row {
+    CodeRow {
         words: &["assemble", "--source", "source", "--report", "said"],
         code: 0,
         said: "",
     },
-    Row {
+    CodeRow {
         words: &[
             "generate",
             "--statements",
@@ -40,7 +40,7 @@ const ROWS: [Row; 18] = [
         code: 0,
         said: "",
     },
-    Row {
+    CodeRow {
         words: &[
             "trial",
             "--statements",
@@ -53,7 +53,7 @@ const ROWS: [Row; 18] = [
         code: 0,
         said: "",
     },
-    Row {
+    CodeRow {
         words: &["run", "--source", "broken", "--report", "said"],
         code: 1,
         said: "ibm1620: --source broken: statement 2: no such operation\n\
@@ -64,7 +64,7 @@ const ROWS: [Row; 18] = [
                ibm1620: bin/lint broken shows what else may be the matter\n\
                ibm1620: mend it; docs/assembler.md has the rule: 04 UnknownOperation\n",
     },
-    Row {
+    CodeRow {
         words: &["load", "--deck", "checks", "--report", "said"],
         code: 3,
         said: "ibm1620: check 06: no such operation code, at 00000\n\
@@ -73,7 +73,7 @@ const ROWS: [Row; 18] = [
                ibm1620: CONSOLE IR 00000 CELLS 230000000000 IR2 00000 ON 09 SWITCHES - STOPS - ARMS 000,000,000,000 DECK 1 DATA 0 KEYS 0 \
                PART INSTRUCTION AT 00000\n",
     },
-    Row {
+    CodeRow {
         words: &[
             "load", "--deck", "loops", "--limit", "1000", "--report", "said",
         ],
@@ -83,48 +83,48 @@ const ROWS: [Row; 18] = [
                ibm1620: bin/trace --deck loops --last 10 shows the last steps\n\
                ibm1620: CONSOLE IR 00000 CELLS 490000000000 IR2 00000 ON 09 SWITCHES - STOPS - ARMS 000,000,000,000 DECK 1 DATA 0 KEYS 0\n",
     },
-    Row {
+    CodeRow {
         words: &["load", "--deck", "reads", "--report", "said"],
         code: 5,
         said: "ibm1620: no card was left to be read, at 00000\n\
                ibm1620: put more cards behind those of --deck reads, or into --data FILE\n\
                ibm1620: CONSOLE IR 00000 CELLS 360050000500 IR2 00000 ON 09 SWITCHES - STOPS - ARMS 000,000,000,000 DECK 1 DATA 0 KEYS 0\n",
     },
-    Row {
+    CodeRow {
         words: &["load", "--deck", "keys", "--report", "said"],
         code: 6,
         said: "ibm1620: no line of the keyboard was left to be read, at 00000\n\
                ibm1620: put more lines into --keys FILE\n\
                ibm1620: CONSOLE IR 00000 CELLS 360050000100 IR2 00000 ON 09 SWITCHES - STOPS - ARMS 000,000,000,000 DECK 1 DATA 0 KEYS 0\n",
     },
-    Row {
+    CodeRow {
         words: &["load", "--deck", "nowhere", "--report", "said"],
         code: 7,
         said: "ibm1620: --deck nowhere: cannot be opened: No such file or directory (os error 2)\n\
                ibm1620: see that the name is right and the file may be read\n",
     },
-    Row {
+    CodeRow {
         words: &["load", "--deck", ".", "--report", "said"],
         code: 7,
         said: "ibm1620: --deck .: cannot be read: Is a directory (os error 21)\n\
                ibm1620: see that it is a file that may be read\n\
                ibm1620: CONSOLE IR 00000 CELLS 000000000000 IR2 00000 ON - SWITCHES - STOPS - ARMS 000,000,000,000 DECK 0 DATA 0 KEYS 0\n",
     },
-    Row {
+    CodeRow {
         words: &["load", "--deck", "halts", "--report", "/dev/full"],
         code: 7,
         said: "ibm1620: --report /dev/full: cannot be written: No space left on device (os error 28)\n\
                ibm1620: see that there is room and the file may be written\n\
                ibm1620: CONSOLE IR 00012 CELLS 000000000000 IR2 00000 ON 09 SWITCHES - STOPS - ARMS 000,000,000,000 DECK 1 DATA 0 KEYS 0\n",
     },
-    Row {
+    CodeRow {
         words: &["load", "--deck", "jams", "--report", "said"],
         code: 9,
         said: "ibm1620: --deck jams: line 1 is over 80 bytes\n\
                ibm1620: cut it: a card, or a line of the keyboard, has no more than 80\n\
                ibm1620: CONSOLE IR 00000 CELLS 000000000000 IR2 00000 ON - SWITCHES - STOPS - ARMS 000,000,000,000 DECK 0 DATA 0 KEYS 0\n",
     },
-    Row {
+    CodeRow {
         words: &[
             "load", "--deck", "halts", "--script", "script", "--report", "said",
         ],
@@ -132,7 +132,7 @@ const ROWS: [Row; 18] = [
         said: "ibm1620: --script script: line 2 is no line of a script\n\
                ibm1620: write it like AT 0 SWITCH 1 ON or HALT START; see docs/formats.md\n",
     },
-    Row {
+    CodeRow {
         words: &[
             "load", "--deck", "halts", "--script", "endless", "--report", "said",
         ],
@@ -140,7 +140,7 @@ const ROWS: [Row; 18] = [
         said: "ibm1620: --script endless: has too many bytes\n\
                ibm1620: shorten it: it may have 1,000,000 bytes\n",
     },
-    Row {
+    CodeRow {
         words: &[
             "debug",
             "--source",
@@ -154,7 +154,7 @@ const ROWS: [Row; 18] = [
         said: "ibm1620: --commands endless: has too many bytes\n\
                ibm1620: shorten it: it may have 1,000,000 bytes\n",
     },
-    Row {
+    CodeRow {
         words: &[
             "debug",
             "--source",
@@ -169,7 +169,7 @@ const ROWS: [Row; 18] = [
         code: 12,
         said: "",
     },
-    Row {
+    CodeRow {
         words: &[
             "debug",
             "--source",
@@ -213,15 +213,15 @@ fn writes_endless(rt: &HostRuntime) -> bool {
 }
 
 // The code of a job, and what it said.
-fn done(rt: &HostRuntime, texts: &[&str]) -> Option<(u8, Said)> {
+fn done(rt: &HostRuntime, texts: &[&str]) -> Option<(u8, MemorySink)> {
     let words = words_from(rt.alloc(), texts).ok()?;
-    let mut errors = Said::new(rt.alloc());
+    let mut errors = MemorySink::new(rt.alloc());
     let code = do_over_files(rt, &words, &mut errors).ok()?;
     Some((code, errors))
 }
 
 // What was said as one piece, or nothing; none where it is told no more, or more pieces were said.
-fn whole_text(errors: &Said) -> Option<&[u8]> {
+fn whole_text(errors: &MemorySink) -> Option<&[u8]> {
     match (errors.tells(), errors.pieces()) {
         (true, []) => Some(&[]),
         (true, [piece]) => Some(piece),

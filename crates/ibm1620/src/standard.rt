@@ -7,11 +7,11 @@ use std::os::fd::AsRawFd;
 const FIRST_FREE: i32 = 3;
 
 // What stands in for each standard stream that was closed.
-pub(crate) type Held = [Option<File>; 3];
+pub(crate) type HeldStreams = [Option<File>; 3];
 
 // Opens what can only be read, and is empty, for each standard stream that is closed. So no file of the job gets its descriptor while
 // this is held, and a write to it fails.
-pub(crate) fn hold_standard(rt: &HostRuntime) -> Result<Held, NoStart> {
+pub(crate) fn hold_standard(rt: &HostRuntime) -> Result<HeldStreams, NoStart> {
     let mut held = [None, None, None];
     for place in 0..3 {
         let file = File::open(rt, "/dev/null").map_err(NoStart::NoNull)?;

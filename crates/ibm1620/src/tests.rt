@@ -4,7 +4,7 @@ use crate::start::{NoStart, words_of};
 use addr_indirect::Stop;
 use command_line::Read;
 use ibm1620_cli::{Answer, Status};
-use job_messages::{Ending, Message};
+use job_messages::{JobEnding, Message};
 use outside_io::{Cause, Doing, Trouble, Unit};
 use sps_ops::Rule;
 use std::alloc::{AllocError, Global};
@@ -33,7 +33,7 @@ fn said(
         refusal: None,
         statement: None,
     };
-    let ending = Ending {
+    let ending = JobEnding {
         status,
         answer: &answer,
         trouble: trouble.as_ref(),
@@ -46,13 +46,17 @@ fn said(
 // What it says of such an ending, its words being read.
 fn said_of_words(
     alloc: Global,
-    ending: Ending<'_>,
+    ending: JobEnding<'_>,
     words: &[String],
 ) -> Result<String, AllocError> {
     said_as_read(alloc, ending, &Read::of(alloc, words))
 }
 
-fn said_as_read(alloc: Global, ending: Ending<'_>, read: &Read<'_>) -> Result<String, AllocError> {
+fn said_as_read(
+    alloc: Global,
+    ending: JobEnding<'_>,
+    read: &Read<'_>,
+) -> Result<String, AllocError> {
     let message = Message::of(ending, read);
     format!(in alloc; "{message}")
 }

@@ -6,7 +6,7 @@ use Rattle.outside_io.specs.declared.host.Unit as unit
 use Rattle.outside_io.specs.World.{one_more}
 use Rattle.outside_io.specs.Lines.{without_return, lines_of, texts_of}
 use Rattle.card_code.specs.Entries.{Text, entry, entries, entries_of_unit}
-use Rattle.sps_pass_two.specs.Image.{Run}
+use Rattle.sps_pass_two.specs.Image.{DigitRun}
 use Rattle.deck_punch.specs.declared.form.DeckForm.{DeckForm}
 use Rattle.loader_cards.specs.ObjectDeck.{deck_in}
 use Rattle.disk_loader.specs.Bootstrap.{bootstrap}
@@ -53,9 +53,9 @@ read_cards : (u : unit.Unit) (n : ℕ) (cards : List (List ℕ)) → AreCardText
 read_cards u n cards are = ap (entries u n) (deck_lines cards are) ∙ entries_are u n cards are
 
 -- the bytes of a deck are its cards, whatever its image and its start
-pub deck_read : (form : DeckForm) (u : unit.Unit) (n : ℕ) (image : List Run) (start : ℕ) → entries_of_unit u n (deck_text (deck_in form image start)) ≡ map Text (deck_in form image start)
+pub deck_read : (form : DeckForm) (u : unit.Unit) (n : ℕ) (image : List DigitRun) (start : ℕ) → entries_of_unit u n (deck_text (deck_in form image start)) ≡ map Text (deck_in form image start)
 deck_read form u n image start = read_cards u n (deck_in form image start) (deck_texts form image start)
 
 -- and so are those of a bootstrap deck
-pub boot_read : (u : unit.Unit) (n : ℕ) (image : List Run) (start : ℕ) → entries_of_unit u n (deck_text (bootstrap image start)) ≡ map Text (bootstrap image start)
+pub boot_read : (u : unit.Unit) (n : ℕ) (image : List DigitRun) (start : ℕ) → entries_of_unit u n (deck_text (bootstrap image start)) ≡ map Text (bootstrap image start)
 boot_read u n image start = read_cards u n (bootstrap image start) (boot_texts image start)

@@ -15,23 +15,23 @@ use Rattle.operator_script.specs.declared.script.ScriptLine.{ScriptLine}
 use Rattle.console_debug.specs.declared.commands.DebugCommand as commands
 use Rattle.deck_punch.specs.declared.form.DeckForm.{DeckForm}
 use Rattle.command_line.specs.declared.words.Command.{Command}
-use Rattle.command_line.specs.Words.{Said}
+use Rattle.command_line.specs.Words.{WordsSaid}
 use Rattle.deck_punch.specs.declared.form.DeckForm.TheVariants.{SelfLoading}
 use Rattle.ibm1620_cli.specs.declared.status.Status.{Status}
 use Rattle.ibm1620_cli.specs.declared.answer.Answer.{Answer}
 use Rattle.ibm1620_cli.specs.declared.status.Status.TheVariants.{SessionEnded, OutOfMemory}
 use Rattle.ibm1620_cli.specs.Binding.{all_bound}
-use Rattle.ibm1620_cli.specs.Promise.{Job, job_behind, job_with_program, Promise, job_read, is_own, Texts, world_with_texts, AreTold}
+use Rattle.ibm1620_cli.specs.Promise.{Job, job_behind, job_with_program, Promise, job_read, is_own, InputTexts, world_with_texts, AreTold}
 use Rattle.ibm1620_cli.specs.Promise as promise
-use Rattle.ibm1620_cli.specs.Turns.{Feed, status_of, ends_a_run, state_over, first_over, LoadedMachine, turns_job}
+use Rattle.ibm1620_cli.specs.Turns.{MachineFeed, status_of, ends_a_run, state_over, first_over, LoadedMachine, turns_job}
 use Rattle.ibm1620_cli.specs.Program.{deck_of, set_up_at_power_on, set_up_after_load, loaded_by}
 use Rattle.ibm1620_cli.specs.Source.{source_read, card_count, program_of, texts_of_program, made_of, made_events, promise_by, running_promise, assembly_promise}
 use Rattle.ibm1620_cli.specs.TrialJob.{trial_modules, trial_settings, job_of_trial, tried_promise}
 use Rattle.ibm1620_cli.specs.LoadJob.{script_read}
 use Rattle.ibm1620_cli.specs.Sessions.{session_job}
 use Rattle.ibm1620_cli.specs.DebugJob.{commands_read, keyed_over, debugging_of, debugged_promise, commands_promise, lines_promise}
-use Rattle.ibm1620_cli.specs.Job.{modules_of, bind_events, job_promise, said_promise, DoesSaid, DoesWords, Tells}
-use Rattle.ibm1620_cli.proofs.Told.{told_text}
+use Rattle.ibm1620_cli.specs.Job.{modules_of, bind_events, job_promise, said_promise, DoesSaid, DoesWords, TellsAnswer}
+use Rattle.ibm1620_cli.proofs.ToldValues.{told_text}
 use Rattle.ibm1620_cli.specs.Endings.{FedTrial, is_refused, TrialEnds, SoundSession, SessionEnds}
 
 -- a run that ends of its own ends in one of the six ways
@@ -58,10 +58,10 @@ module _ (words : List (List ℕ)) (old new : Seen) (answer : Answer) (t : FedTr
   Ends = (ends_a_run answer.status ≡ true) ⊎ (is_refused answer.status ≡ true)
 
   abbrev Does : Option Job → Type 0
-  Does o = IfSome o (λ j. promise.Ends j old new answer)
+  Does o = IfSome o (λ j. promise.EndsWithAnswer j old new answer)
 
   -- by any texts of units that it doesn't read
-  module _ (texts : Texts) where
+  module _ (texts : InputTexts) where
     abbrev given : World
     given = world_with_texts texts w
 
@@ -72,7 +72,7 @@ module _ (words : List (List ℕ)) (old new : Seen) (answer : Answer) (t : FedTr
     job_is : (said_promise t.said given).job ≡ option_map (job_behind binds) (by (refusal_of (size trial_modules) source)).job
     job_is = ap (λ (command : Command). option_map (job_behind binds) (job_promise (modules_of t.said.core) command t.said.settings given).job) t.command
 
-    abbrev loaded : Feed → LoadedMachine
+    abbrev loaded : MachineFeed → LoadedMachine
     loaded feed =
         let p = program_of trial_modules SelfLoading source in
         loaded_by p feed (state_over w (set_up_at_power_on p feed)) (first_over w (set_up_after_load p feed) [])
@@ -80,13 +80,13 @@ module _ (words : List (List ℕ)) (old new : Seen) (answer : Answer) (t : FedTr
     abbrev with_program : Job → Job
     with_program j = job_with_program (texts_of_program trial_modules source) j
 
-    abbrev tried : Feed → Job
+    abbrev tried : MachineFeed → Job
     tried feed = job_behind binds (with_program (job_of_trial t.said.settings.statements t.said.settings.number (card_count trial_modules SelfLoading source) (turns_job (Some (deck_of (program_of trial_modules SelfLoading source))) (made_events (made_of trial_modules SelfLoading source)) (trial_settings t.said.settings).limit (loaded feed))))
 
     by_source : (o : Option Refusal) → is_own answer.status ≡ true → Does (option_map (job_behind binds) (by o).job) → Ends
     by_source (Some r) own does = inr (ap is_refused does.status)
     by_source None own does =
-        let one : Does (Some (tried t.feed)) = subst Does (ap (λ (o : Option Feed). option_map (job_behind binds) (option_map with_program (option_map (job_of_trial t.said.settings.statements t.said.settings.number (card_count trial_modules SelfLoading source)) (option_map (λ feed. turns_job (Some (deck_of (program_of trial_modules SelfLoading source))) (made_events (made_of trial_modules SelfLoading source)) (trial_settings t.said.settings).limit (loaded feed)) o)))) t.feed_is) does in
+        let one : Does (Some (tried t.feed)) = subst Does (ap (λ (o : Option MachineFeed). option_map (job_behind binds) (option_map with_program (option_map (job_of_trial t.said.settings.statements t.said.settings.number (card_count trial_modules SelfLoading source)) (option_map (λ feed. turns_job (Some (deck_of (program_of trial_modules SelfLoading source))) (made_events (made_of trial_modules SelfLoading source)) (trial_settings t.said.settings).limit (loaded feed)) o)))) t.feed_is) does in
         let last = last_place (trial_settings t.said.settings).limit (loaded t.feed).first in
         inl (subst (λ (s : Status). ends_a_run s ≡ true) (sym one.status) (own_ends last.steps (ending_of last.state) (subst (λ (s : Status). is_own s ≡ true) one.status own)))
 
@@ -97,11 +97,11 @@ module _ (words : List (List ℕ)) (old new : Seen) (answer : Answer) (t : FedTr
     | inr (inr lacks) ↦ absurd (found (ap (λ (a : Answer). a.status) lacks.plain))
   ]
 
-  pub trial_of : Tells words old new answer → (Rose old.faults new.faults → ⊥) → answer.status ≢ OutOfMemory → Ends
-  trial_of (inl does) none found = trial_said (subst (λ (o : Option Said). DoesWords o old new answer) t.said_is does) none found
+  pub trial_of : TellsAnswer words old new answer → (Rose old.faults new.faults → ⊥) → answer.status ≢ OutOfMemory → Ends
+  trial_of (inl does) none found = trial_said (subst (λ (o : Option WordsSaid). DoesWords o old new answer) t.said_is does) none found
   trial_of (inr lacks) none found = absurd (found lacks.0.lacks)
 
-pub trial_told : (words : List (List ℕ)) (old new : Seen) (answer : Answer) → Tells words old new answer → TrialEnds words old new answer.status
+pub trial_told : (words : List (List ℕ)) (old new : Seen) (answer : Answer) → TellsAnswer words old new answer → TrialEnds words old new answer.status
 trial_told words old new answer tells t none found = trial_of words old new answer t tells none found
 
 module _ (words : List (List ℕ)) (old new : Seen) (answer : Answer) (t : SoundSession words old.world) where
@@ -120,13 +120,13 @@ module _ (words : List (List ℕ)) (old new : Seen) (answer : Answer) (t : Sound
   abbrev with_its_program : Job → Job
   with_its_program j = job_with_program (texts_of_program m t.source) j
 
-  abbrev session_of_feed : Feed → Job
+  abbrev session_of_feed : MachineFeed → Job
   session_of_feed feed =
       session_job (Some (deck_of (program_of m form t.source))) (made_events (made_of m form t.source)) (debugging_of m t.said.settings t.lines t.commands t.source)
       (keyed_over (program_of m form t.source) bound t.lines feed)
 
   -- by any texts that are what is told
-  module _ (texts : Texts) (told : AreTold texts bound) where
+  module _ (texts : InputTexts) (told : AreTold texts bound) where
     abbrev here : World
     here = world_with_texts texts bound
 
@@ -149,18 +149,18 @@ module _ (words : List (List ℕ)) (old new : Seen) (answer : Answer) (t : Sound
         ∙ ap (λ (left : Option (List ℕ)). behind (option_and_then (λ text. from_source (source_read text)) left)) (told_text (bound.left units.Source) t.source texts.source t.source_is told.source)
         ∙ ap (λ (x : Result (List ℕ) Status). behind (from_source x)) t.source_fits
         ∙ ap (λ (x : Option Refusal). behind (promise_by (running_promise m (debugged_promise m t.said.settings t.lines t.commands)) t.source x here).job) t.unbroken
-        ∙ ap (λ (o : Option Feed). behind (option_map with_its_program (option_map session_of_feed o))) t.feed_is
+        ∙ ap (λ (o : Option MachineFeed). behind (option_map with_its_program (option_map session_of_feed o))) t.feed_is
 
   session_said : DoesSaid t.said old new answer → (Rose old.faults new.faults → ⊥) → answer.status ≢ OutOfMemory → answer.status ≡ SessionEnded
   session_said kept none found = elim kept.keeps [
-    | inl own ↦ (subst (λ (o : Option Job). IfSome o (λ j. promise.Ends j old new answer)) (session_is kept.texts kept.told) own.all).status
+    | inl own ↦ (subst (λ (o : Option Job). IfSome o (λ j. promise.EndsWithAnswer j old new answer)) (session_is kept.texts kept.told) own.all).status
     | inr (inl fault) ↦ absurd (none fault.rose)
     | inr (inr lacks) ↦ absurd (found (ap (λ (a : Answer). a.status) lacks.plain))
   ]
 
-  pub session_ends : Tells words old new answer → (Rose old.faults new.faults → ⊥) → answer.status ≢ OutOfMemory → answer.status ≡ SessionEnded
-  session_ends (inl does) none found = session_said (subst (λ (o : Option Said). DoesWords o old new answer) t.said_is does) none found
+  pub session_ends : TellsAnswer words old new answer → (Rose old.faults new.faults → ⊥) → answer.status ≢ OutOfMemory → answer.status ≡ SessionEnded
+  session_ends (inl does) none found = session_said (subst (λ (o : Option WordsSaid). DoesWords o old new answer) t.said_is does) none found
   session_ends (inr lacks) none found = absurd (found lacks.0.lacks)
 
-pub session_told : (words : List (List ℕ)) (old new : Seen) (answer : Answer) → Tells words old new answer → SessionEnds words old new answer.status
+pub session_told : (words : List (List ℕ)) (old new : Seen) (answer : Answer) → TellsAnswer words old new answer → SessionEnds words old new answer.status
 session_told words old new answer tells t none found = session_ends words old new answer t tells none found

@@ -14,7 +14,7 @@ use Rattle.ibm1620_cli.specs.Promise.{answer_of, unasked, Promise, KeepsPromise}
 use Rattle.ibm1620_cli.specs.GenerateJob.{generate_promise}
 use Rattle.ibm1620_cli.specs.Parts.{Reports}
 use Rattle.ibm1620_cli.proofs.TakenInputs.{text_takes}
-use Rattle.ibm1620_cli.proofs.Kept.{promise_report, promise_cut, promise_memory}
+use Rattle.ibm1620_cli.proofs.KeptPromises.{promise_report, promise_cut, promise_memory}
 
 module _ (settings : Settings) (start : Seen) where
   abbrev promise : Promise

@@ -19,7 +19,7 @@ use Rattle.sps_pass_two.specs.Broken.{refusal_of}
 use Rattle.sps_pass_two.specs.Image.{cells_from}
 use Rattle.sps_pass_two.specs.Assembled.{fields_of, start_in}
 use Rattle.sps_pass_two.proofs.Program.{is_image, is_program, within, start_fits}
-use Rattle.command_line.specs.Words.{Names, Said}
+use Rattle.command_line.specs.Words.{Names, WordsSaid}
 use Rattle.command_line.specs.declared.words.Command.{Command}
 use Rattle.command_line.specs.declared.words.CoreSize.{CoreSize}
 use Rattle.command_line.specs.declared.words.CoreSize.TheVariants.{OneModule, TwoModules, ThreeModules}
@@ -28,15 +28,15 @@ use Rattle.ibm1620_cli.specs.declared.answer.Answer.{Answer}
 use Rattle.ibm1620_cli.specs.declared.status.Status.TheVariants.{OutOfMemory}
 use Rattle.ibm1620_cli.specs.Report.{report_line}
 use Rattle.ibm1620_cli.specs.Binding.{all_bound}
-use Rattle.ibm1620_cli.specs.Promise.{Job, job_read, job_behind, job_with_program, Ends, is_own, Texts, world_with_texts, AreTold}
-use Rattle.ibm1620_cli.specs.Turns.{Feed, SetUp, ends_a_run, state_over, first_over, turns_job}
+use Rattle.ibm1620_cli.specs.Promise.{Job, job_read, job_behind, job_with_program, EndsWithAnswer, is_own, InputTexts, world_with_texts, AreTold}
+use Rattle.ibm1620_cli.specs.Turns.{MachineFeed, SetUp, ends_a_run, state_over, first_over, turns_job}
 use Rattle.ibm1620_cli.specs.Program.{Program, Fits, deck_of, loaded_by, set_up_at_power_on, set_up_after_load, set_up_at_start}
 use Rattle.ibm1620_cli.specs.Source.{source_read, program_of, texts_of_program, made_of, made_events, promise_by, running_promise, assembly_promise}
 use Rattle.ibm1620_cli.specs.LoadJob.{script_read}
 use Rattle.ibm1620_cli.specs.RunJob.{turned_promise, script_promise}
-use Rattle.ibm1620_cli.specs.Job.{modules_of, job_promise, bind_event, bind_events, said_promise, DoesSaid, DoesWords, Tells}
+use Rattle.ibm1620_cli.specs.Job.{modules_of, job_promise, bind_event, bind_events, said_promise, DoesSaid, DoesWords, TellsAnswer}
 use Rattle.ibm1620_cli.specs.Headline.{bytes_in, SoundRun, job_in, DoesProgram, Headline}
-use Rattle.ibm1620_cli.proofs.Told.{told_text}
+use Rattle.ibm1620_cli.proofs.ToldValues.{told_text}
 use Rattle.ibm1620_cli.proofs.Scripts.{short_read}
 use Rattle.ibm1620_cli.proofs.Sources.{short_source}
 use Rattle.ibm1620_cli.proofs.Forms.{loads_in}
@@ -110,7 +110,7 @@ module _ (words : List (List ℕ)) (old new : Seen) (answer : Answer) (r : Sound
   abbrev first : SetUp → RunPlace
   first s = first_over w s r.lines
 
-  abbrev powered : Feed → State
+  abbrev powered : MachineFeed → State
   powered feed = state_over w (set_up_at_power_on p feed)
 
   abbrev with_program : Job → Job
@@ -120,7 +120,7 @@ module _ (words : List (List ℕ)) (old new : Seen) (answer : Answer) (r : Sound
   whole s = job_behind binds (with_program (turns_job (Some (deck_of p)) made r.said.settings.limit (loaded_by p r.feed (powered r.feed) (first s))))
 
   -- by any texts that are what is told
-  module _ (t : Texts) (told : AreTold t w) where
+  module _ (t : InputTexts) (told : AreTold t w) where
     abbrev given : World
     given = world_with_texts t w
 
@@ -138,13 +138,13 @@ module _ (words : List (List ℕ)) (old new : Seen) (answer : Answer) (r : Sound
         ∙ ap (λ (left : Option (List ℕ)). option_map (job_behind binds) (option_and_then (λ text. by_source (source_read text)) left)) (told_text (w.left units.Source) r.source t.source r.source_is told.source)
         ∙ ap (λ (x : Result (List ℕ) Status). option_map (job_behind binds) (by_source x)) (short_source r.source r.source_fits)
         ∙ ap (λ (x : Option Refusal). option_map (job_behind binds) (promise_by (running_promise m (turned_promise m r.said.settings r.lines)) r.source x given).job) r.unbroken
-        ∙ ap (λ (o : Option Feed). option_map (job_behind binds) (option_map with_program (option_map (λ feed. turns_job (Some (deck_of p)) made r.said.settings.limit (loaded_by p feed (powered feed) (first (set_up_after_load p feed)))) o))) r.feed_is
+        ∙ ap (λ (o : Option MachineFeed). option_map (job_behind binds) (option_map with_program (option_map (λ feed. turns_job (Some (deck_of p)) made r.said.settings.limit (loaded_by p feed (powered feed) (first (set_up_after_load p feed)))) o))) r.feed_is
 
   set_up_is : set_up_after_load p r.feed ≡ set_up_at_start p r.feed
   set_up_is = λ i. same_set_up p fits i r.feed
 
   -- the turns begin in the program's own machine
-  entered_is : (t : Texts) → AreTold t w → (said_promise r.said (world_with_texts t w)).job ≡ Some (job_in r)
+  entered_is : (t : InputTexts) → AreTold t w → (said_promise r.said (world_with_texts t w)).job ≡ Some (job_in r)
   entered_is t told = job_is t told ∙ ap (λ (s : SetUp). Some (whole s)) set_up_is
 
   abbrev place : RunPlace
@@ -161,7 +161,7 @@ module _ (words : List (List ℕ)) (old new : Seen) (answer : Answer) (r : Sound
       (writes_both reads_pack (deck_taken (deck_of p)) (run_events r.said.settings.limit place) (writes_taken (deck_of p)) (writes_within r.said.settings.limit (most_turns r.said.settings.limit place) place)))
       (writes_text reads_pack units.Report (report_line (job_in r).status))
 
-  by_does : IsFresh old.world → is_own answer.status ≡ true → Ends (job_in r) old new answer → DoesProgram old r new answer
+  by_does : IsFresh old.world → is_own answer.status ≡ true → EndsWithAnswer (job_in r) old new answer → DoesProgram old r new answer
   by_does fresh own does = record {
     loads = loads_in p.form p.image p.start fits.each fits.above;
     enters = set_up_is;
@@ -172,14 +172,14 @@ module _ (words : List (List ℕ)) (old new : Seen) (answer : Answer) (r : Sound
 
   of_said : IsFresh old.world → DoesSaid r.said old new answer → (Rose old.faults new.faults → ⊥) → answer.status ≢ OutOfMemory → DoesProgram old r new answer
   of_said fresh kept none found = elim kept.keeps [
-    | inl own ↦ by_does fresh own.own (subst (λ (o : Option Job). IfSome o (λ j. Ends j old new answer)) (entered_is kept.texts kept.told) own.all)
+    | inl own ↦ by_does fresh own.own (subst (λ (o : Option Job). IfSome o (λ j. EndsWithAnswer j old new answer)) (entered_is kept.texts kept.told) own.all)
     | inr (inl fault) ↦ absurd (none fault.rose)
     | inr (inr lacks) ↦ absurd (found (ap (λ (a : Answer). a.status) lacks.plain))
   ]
 
-  pub of_told : IsFresh old.world → Tells words old new answer → (Rose old.faults new.faults → ⊥) → answer.status ≢ OutOfMemory → DoesProgram old r new answer
-  of_told fresh (inl does) none found = of_said fresh (subst (λ (o : Option Said). DoesWords o old new answer) r.said_is does) none found
+  pub of_told : IsFresh old.world → TellsAnswer words old new answer → (Rose old.faults new.faults → ⊥) → answer.status ≢ OutOfMemory → DoesProgram old r new answer
+  of_told fresh (inl does) none found = of_said fresh (subst (λ (o : Option WordsSaid). DoesWords o old new answer) r.said_is does) none found
   of_told fresh (inr lacks) none found = absurd (found lacks.0.lacks)
 
-pub headline_told : (words : List (List ℕ)) (old new : Seen) (answer : Answer) → IsFresh old.world → Tells words old new answer → Headline words old new answer
+pub headline_told : (words : List (List ℕ)) (old new : Seen) (answer : Answer) → IsFresh old.world → TellsAnswer words old new answer → Headline words old new answer
 headline_told words old new answer fresh tells r none found = of_told words old new answer r fresh tells none found

@@ -8,18 +8,18 @@ use Rattle.outside_io.specs.declared.host.TheConstants.{UNIT_COUNT}
 use Rattle.outside_io.specs.World.{World, Asked, Seen, Goes, IsFree, all_units}
 use Rattle.outside_io.specs.Events.{Event, after_events, IsFirstPart}
 use Rattle.outside_io.proofs.EventLemmas.{same_of, after_append, did_none, first_none, first_on}
-use Rattle.command_line.specs.Words.{Names, Said, no_names}
+use Rattle.command_line.specs.Words.{Names, WordsSaid, no_names}
 use Rattle.ibm1620_cli.specs.declared.status.Status.{Status}
 use Rattle.ibm1620_cli.specs.declared.answer.Answer.{Answer}
 use Rattle.ibm1620_cli.specs.declared.status.Status.TheVariants.{Usage, HostFault}
 use Rattle.ibm1620_cli.specs.Binding.{bound_if, each_bound, all_bound, BindsNamed, BindsSome}
 use Rattle.ibm1620_cli.specs.Promise.{Job, job_behind, unasked, StopsAt, answer_of, KeepsPromise, world_with_texts, KeepsFrom}
 use Rattle.ibm1620_cli.specs.Report.{report_line}
-use Rattle.ibm1620_cli.specs.Parts.{Reports, Stays}
+use Rattle.ibm1620_cli.specs.Parts.{Reports, LeavesUnread}
 use Rattle.ibm1620_cli.specs.Job.{modules_of, bind_event, bind_events, job_promise, usage_promise, DoesSaid, DoesJob, reads, KeepsFiles, KeepsSaid}
 use Rattle.ibm1620_cli.proofs.Bindings.{first_asked, bound_left, bound_sectors}
 use Rattle.ibm1620_cli.proofs.TakenInputs.{binds_take, stops_unasked}
-use Rattle.ibm1620_cli.proofs.Kept.{once_same, once_second, report_stays, promise_report, promise_bound}
+use Rattle.ibm1620_cli.proofs.KeptPromises.{once_same, once_second, report_stays, promise_report, promise_bound}
 use Rattle.ibm1620_cli.proofs.Readings.{texts_told, are_told}
 
 one_bound : (u : unit.Unit) (o : Option (List ℕ)) (w : World) → after_events w (bind_event u o) ≡ bound_if u o w
@@ -55,7 +55,7 @@ usage_unread old new answer reports =
     (fun_ext (λ u. stays.left u refl), stays.sectors refl, fun_ext (λ u. stays.asked u refl))
 
 -- where nothing was done all keep what they had
-pub same_unread : (o : Option Said) (old new : Seen) → IsFree old.world → new ≡ old → KeepsSaid o old new
+pub same_unread : (o : Option WordsSaid) (old new : Seen) → IsFree old.world → new ≡ old → KeepsSaid o old new
 same_unread None old new free same = (ap (λ (s : Seen). s.world.left) same, ap (λ (s : Seen). s.world.sectors) same, ap (λ (s : Seen). s.world.asked) same)
 same_unread (Some said) old new free same = record {
   left = λ u unread.
@@ -68,7 +68,7 @@ same_unread (Some said) old new free same = record {
   once = λ u fed. once_same (old.world.asked u) (new.world.asked u) (ap (λ (s : Seen). s.world.asked u) same);
 }
 
-module _ (said : Said) (old : Seen) where
+module _ (said : WordsSaid) (old : Seen) where
   abbrev binds : List Event
   binds = bind_events all_units said.names
 
@@ -85,7 +85,7 @@ module _ (said : Said) (old : Seen) where
             (λ u read. ap (λ (w : World). w.asked u) goes.world ∙ ap (λ (asked : unit.Unit → Option Asked). asked u) (first_asked UNIT_COUNT said.names old.world)) answer kept.keeps;
       }
 
-  pub all_binds : (mid new : Seen) (answer : Status) → Goes old mid (all_bound said.names old.world) → Stays (reads said.command) mid.world new.world → BindsNamed said.names old.world new.world answer
+  pub all_binds : (mid new : Seen) (answer : Status) → Goes old mid (all_bound said.names old.world) → LeavesUnread (reads said.command) mid.world new.world → BindsNamed said.names old.world new.world answer
   all_binds mid new answer goes stays = record {
     reached = UNIT_COUNT;
     in_use = stays.in_use ∙ ap (λ (w : World). w.in_use) goes.world;
@@ -94,7 +94,7 @@ module _ (said : Said) (old : Seen) where
   }
 
   -- what is not read is what the files have
-  pub all_unread : (mid new : Seen) → IsFree old.world → Goes old mid (all_bound said.names old.world) → Stays (reads said.command) mid.world new.world → KeepsFiles said old new
+  pub all_unread : (mid new : Seen) → IsFree old.world → Goes old mid (all_bound said.names old.world) → LeavesUnread (reads said.command) mid.world new.world → KeepsFiles said old new
   all_unread mid new free goes stays =
       let used : new.world.in_use ≡ (all_bound said.names old.world).in_use = stays.in_use ∙ ap (λ (w : World). w.in_use) goes.world in
       let bound : (u : unit.Unit) → mid.world.asked u ≡ old.world.asked u = λ u. ap (λ (w : World). w.asked u) goes.world ∙ ap (λ (asked : unit.Unit → Option Asked). asked u) (first_asked UNIT_COUNT said.names old.world) in

@@ -6,7 +6,7 @@ use Rattle.outside_io.specs.World.{World, Seen, Goes, world_after_put}
 use Rattle.outside_io.specs.Events.{Event, cards_in, lines_in}
 use Rattle.card_code.specs.Entries.{Entry}
 use Rattle.card_unit.specs.declared.hopper.Hopper.{Hopper}
-use Rattle.card_unit.specs.Hopper.{hopper_left, deck_left, own_cards, HasRead, Begins}
+use Rattle.card_unit.specs.Hopper.{hopper_left, deck_left, own_cards, HasReadCards, IsNewHopper}
 use Rattle.typewriter.specs.Keys.{keys_left}
 use Rattle.typewriter.specs.Keys as keyboard
 use Rattle.cpu_step.specs.declared.machine.Machine.{Machine}
@@ -14,11 +14,11 @@ use Rattle.cpu_step.specs.declared.console.Console.{Console}
 use Rattle.cpu_step.specs.State.{State}
 use Rattle.cpu_step.specs.Machine.{state_with, over_all, state_of, IsPowered, Frames}
 use Rattle.cpu_step.specs.Console.{shown_on, console_of}
-use Rattle.cpu_step.proofs.Exact.{state_is}
+use Rattle.cpu_step.proofs.ExactCards.{state_is}
 use Rattle.cpu_step.proofs.InputsTaken.{HasTaken}
 use Rattle.console_debug.specs.Debugs.{Attends}
 use Rattle.ibm1620_cli.specs.Ways.{Way}
-use Rattle.ibm1620_cli.specs.Promise.{Rest, HasLeft, LeavesMachine, StandsSomewhere, AsksForInputs, asked}
+use Rattle.ibm1620_cli.specs.Promise.{MachineEnd, HasLeft, LeavesMachine, StandsSomewhere, AsksForInputs, asked}
 use Rattle.ibm1620_cli.proofs.TakenInputs.{left_as, left_same}
 
 -- what a told state tells of the cards and of the lines
@@ -51,23 +51,23 @@ pub record Supply : Type 0 where
   pub keys : List Entry
 
 -- where a machine ends that had this at power on
-abbrev pub rest_at : Supply → State → Rest
+abbrev pub rest_at : Supply → State → MachineEnd
 rest_at had s = record { state = s; own = had.own; pile = had.pile; cards = had.cards; keys = had.keys }
 
 -- a machine's reader and keyboard have read what they have since it had this at power on
 pub record HasReadOf (m : ℕ) (had : Supply) (machine : Machine m) (w : World) : Type 0 where
   pub own_is : own_cards machine.hopper ≡ had.own
-  pub cards : HasRead (record { pile = had.pile; all = had.cards }) machine.hopper w
-  pub lines : keyboard.HasRead had.keys machine.keys w
+  pub cards : HasReadCards (record { pile = had.pile; all = had.cards }) machine.hopper w
+  pub lines : keyboard.HasReadLines had.keys machine.keys w
 
 -- so it is at power on, and stays so over a call and over a session
-pub powered_reads : (m : ℕ) (own : Option (List (List ℕ))) (pile : List Entry) (hopper : Hopper) (machine : Machine m) (w : World) (s : State) → own_cards hopper ≡ own → Begins hopper → IfSome (deck_left hopper w) (λ left. pile ≡ left)
+pub powered_reads : (m : ℕ) (own : Option (List (List ℕ))) (pile : List Entry) (hopper : Hopper) (machine : Machine m) (w : World) (s : State) → own_cards hopper ≡ own → IsNewHopper hopper → IfSome (deck_left hopper w) (λ left. pile ≡ left)
     → IsPowered m hopper machine → state_of m machine w ≡ Some s → HasReadOf m (record { own = own; pile = pile; cards = s.hopper; keys = s.keys }) machine w
 powered_reads m own pile hopper machine w s own_is begins told powered is =
     let cards : hopper_left hopper w ≡ Some s.hopper = ap (λ (h : Hopper). hopper_left h w) (sym powered.hopper_in) ∙ machine_cards m machine w s is in
     record {
       own_is = ap own_cards powered.hopper_in ∙ own_is;
-      cards = subst (λ (h : Hopper). HasRead (record { pile = pile; all = s.hopper }) h w) (sym powered.hopper_in)
+      cards = subst (λ (h : Hopper). HasReadCards (record { pile = pile; all = s.hopper }) h w) (sym powered.hopper_in)
           (begins (record { pile = pile; all = s.hopper }) w told (subst (λ (o : Option (List Entry)). IfSome o (λ left. s.hopper ≡ left)) (sym cards) refl));
       lines = powered.begins s.keys w (subst (λ (o : Option (List Entry)). IfSome o (λ left. s.keys ≡ left)) (sym (machine_lines m machine w s is)) refl);
     }
@@ -100,10 +100,10 @@ machine_asks m had machine way from last done old w s shown is taken cards keys 
     (taken.cards ∙ ap (λ (es : List Entry). drop (cards_in done) es) cards) (taken.lines ∙ ap (λ (es : List Entry). drop (lines_in done) es) keys) (machine_has m had machine w s last shown is has shows))
 
 -- the inputs of a machine that ended, and what its console shows, are so as long as nothing is taken of them, and none is asked
-pub rest_same : (o : Option Rest) (shown : Option Console) (w v : World) → v.left ≡ w.left → v.asked ≡ w.asked → LeavesMachine o shown w → LeavesMachine o shown v
+pub rest_same : (o : Option MachineEnd) (shown : Option Console) (w v : World) → v.left ≡ w.left → v.asked ≡ w.asked → LeavesMachine o shown w → LeavesMachine o shown v
 rest_same None shown w v same still leaves = leaves
 rest_same (Some r) shown w v same still leaves = left_same r r.state.hopper r.state.keys r.state shown w v same still leaves
 
 -- so a line leaves them
-pub rest_reported : (o : Option Rest) (shown : Option Console) (mid new : Seen) (line : List ℕ) → Goes mid new (world_after_put units.Report line mid.world) → LeavesMachine o shown mid.world → LeavesMachine o shown new.world
+pub rest_reported : (o : Option MachineEnd) (shown : Option Console) (mid new : Seen) (line : List ℕ) → Goes mid new (world_after_put units.Report line mid.world) → LeavesMachine o shown mid.world → LeavesMachine o shown new.world
 rest_reported o shown mid new line goes leaves = rest_same o shown mid.world new.world (ap (λ (w : World). w.left) goes.world) (ap (λ (w : World). w.asked) goes.world) leaves

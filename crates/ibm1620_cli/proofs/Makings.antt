@@ -32,10 +32,10 @@ use Rattle.cpu_step.specs.Machine.{machine_texts}
 use Rattle.cpu_step.proofs.Texts.{texts_other}
 use Rattle.ibm1620_cli.specs.Source.{assembled_source, program_of, SourceTexts, made_of, made_events}
 use Rattle.ibm1620_cli.specs.AssembleJob.{assembled_status, written_promise}
-use Rattle.ibm1620_cli.specs.Parts.{Reports, made_with, StopsWithin, EventsOccur, Stays}
+use Rattle.ibm1620_cli.specs.Parts.{Reports, made_with, StopsWithin, EventsOccur, LeavesUnread}
 use Rattle.ibm1620_cli.proofs.Writes.{AreWritesOf, writes_both, writes_text, does_binds, stops_fails, stops_asked}
 use Rattle.ibm1620_cli.proofs.TakenInputs.{makings_take, goes_unasked}
-use Rattle.ibm1620_cli.proofs.Kept.{both_makings, promise_report, promise_cut, promise_memory}
+use Rattle.ibm1620_cli.proofs.KeptPromises.{both_makings, promise_report, promise_cut, promise_memory}
 use Rattle.ibm1620_cli.proofs.Sources.{FollowsSource, follows_nothing}
 
 module _ (made : SourceTexts) where
@@ -54,7 +54,7 @@ module _ (made : SourceTexts) where
       (writes_both r image listing (writes_text r units.Image made.image) (writes_text r units.Listing made.listing))
 
   -- what is bound stays so, and nothing is read
-  pub made_binds : (old new : Seen) (how : Sent) → EventsOccur (made_events made) old new how → Stays reads_nothing old.world new.world
+  pub made_binds : (old new : Seen) (how : Sent) → EventsOccur (made_events made) old new how → LeavesUnread reads_nothing old.world new.world
   made_binds old new how does = does_binds reads_nothing (made_events made) old new how (made_writes reads_nothing) does
 
   -- the world with the three texts

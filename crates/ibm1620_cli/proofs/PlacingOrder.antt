@@ -6,7 +6,7 @@ use Rattle.outside_io.specs.declared.host.Unit.TheVariants as units
 use Rattle.outside_io.specs.World.{World, world_after_put}
 use Rattle.disk_loader.specs.Writes.{SectorText, world_after}
 use Rattle.outside_io.specs.Events.{Event, WriteByte, WriteSector, after_events, text_events, IsFirstPart, SameOutside, DidPart}
-use Rattle.ibm1620_cli.specs.DiskJob.{Placing, sector_events, placing_events, with_boot, with_boot_image, with_placed, AreTextsWhole, IsInOrder}
+use Rattle.ibm1620_cli.specs.DiskJob.{DiskPlacing, sector_events, placing_events, with_boot, with_boot_image, with_placed, AreTextsWhole, IsInOrder}
 use Rattle.outside_io.proofs.EventLemmas.{after_append, after_text}
 use Rattle.ibm1620_cli.proofs.Placings.{after_sectors}
 
@@ -43,7 +43,7 @@ first_made f (x ∷ xs) (d ∷ done) part =
     let rest = first_made f xs done (part.0, tail) in
     record { from = x ∷ rest.from; is = λ i. head i ∷ rest.is i }
 
-module _ (p : Placing) (old new : World) where
+module _ (p : DiskPlacing) (old new : World) where
   abbrev deck : List Event
   deck = text_events units.Object p.deck
 
@@ -111,7 +111,7 @@ module _ (p : Placing) (old new : World) where
     | inr on ↦ behind_deck on.rest on.part (subst (λ (es : List Event). Same (after_events old es)) on.is same)
   ]
 
-pub placing_order : (p : Placing) (line : List ℕ) (old new : World) → DidPart (placing_events p ++ text_events units.Report line) old new → IsInOrder p old new
+pub placing_order : (p : DiskPlacing) (line : List ℕ) (old new : World) → DidPart (placing_events p ++ text_events units.Report line) old new → IsInOrder p old new
 placing_order p line old new did = elim (within did.done (placing_events p) (text_events units.Report line) did.part) [
   | inl first ↦ in_placing p old new did.done first did.did
   | inr on ↦

@@ -21,11 +21,11 @@ use Rattle.ibm1620_cli.specs.Report.{report_line}
 use Rattle.ibm1620_cli.specs.Inputs.{reads_pack}
 use Rattle.ibm1620_cli.specs.Promise.{answer_of, TakesNone, unasked, KeepsPromise, nothing_done}
 use Rattle.deck_punch.specs.DeckText.{deck_text}
-use Rattle.ibm1620_cli.specs.Parts.{Reports, StopsWithin, EventsOccur, Stays}
-use Rattle.ibm1620_cli.specs.DiskJob.{placing_status, Placing, disk_placing, placing_with, sector_events, placing_events, placing_promise}
+use Rattle.ibm1620_cli.specs.Parts.{Reports, StopsWithin, EventsOccur, LeavesUnread}
+use Rattle.ibm1620_cli.specs.DiskJob.{placing_status, DiskPlacing, disk_placing, placing_with, sector_events, placing_events, placing_promise}
 use Rattle.ibm1620_cli.proofs.Writes.{AreWrites, writes_both, writes_text, does_binds, stops_fails, stops_asked}
 use Rattle.ibm1620_cli.proofs.TakenInputs.{takes_neither, text_takes, goes_unasked}
-use Rattle.ibm1620_cli.proofs.Kept.{promise_report, promise_cut}
+use Rattle.ibm1620_cli.proofs.KeptPromises.{promise_report, promise_cut}
 use Rattle.ibm1620_cli.proofs.Sources.{FollowsSource, follows_nothing}
 
 -- the sectors, one after another
@@ -64,13 +64,13 @@ sectors_take [] = (refl, refl)
 sectors_take (s ∷ ss) = sectors_take ss
 
 -- no card and no line of Keys is taken
-placing_takes : (p : Placing) → TakesNone (placing_events p)
+placing_takes : (p : DiskPlacing) → TakesNone (placing_events p)
 placing_takes p =
     takes_neither (text_events units.Object p.deck) (text_events units.Image p.image ++ sector_events p.sectors) (text_takes units.Object p.deck)
     (takes_neither (text_events units.Image p.image) (sector_events p.sectors) (text_takes units.Image p.image) (sectors_take p.sectors))
 
 -- what is bound stays so, and nothing but the pack is worked with
-pub placed_binds : (p : Placing) (old new : Seen) (how : Sent) → EventsOccur (placing_events p) old new how → Stays reads_pack old.world new.world
+pub placed_binds : (p : DiskPlacing) (old new : Seen) (how : Sent) → EventsOccur (placing_events p) old new how → LeavesUnread reads_pack old.world new.world
 placed_binds p old new how does =
     does_binds reads_pack (placing_events p) old new how
     (writes_both reads_pack (text_events units.Object p.deck) (text_events units.Image p.image ++ sector_events p.sectors) (writes_text reads_pack units.Object p.deck)
@@ -89,7 +89,7 @@ module _ (m : ℕ) (source : List ℕ) (a : Assembled) (is : IsAssembled (size m
   placed_is sectors cards sectors_are cards_are = λ i. statuses.Placed ((sectors_are ∙ (λ j. length (image_sectors (is.pieces_are j)))) i) ((cards_are ∙ (λ j. length (bootstrap (is.pieces_are j) (is.start_is j)))) i)
 
 module _ (m : ℕ) (source : List ℕ) (start : Seen) where
-  abbrev p : Placing
+  abbrev p : DiskPlacing
   p = disk_placing m source
 
   abbrev status : Status

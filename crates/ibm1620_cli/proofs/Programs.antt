@@ -8,7 +8,7 @@ use Rattle.outside_io.proofs.EventLemmas.{did_none}
 use Rattle.card_code.specs.declared.Card.{Card}
 use Rattle.card_code.specs.Entries.{Entry, Text, hopper_of, entries_of_unit}
 use Rattle.card_unit.specs.declared.hopper.Hopper.{Hopper}
-use Rattle.card_unit.specs.Hopper.{hopper_left, deck_left, own_cards, cards_and_data, Begins}
+use Rattle.card_unit.specs.Hopper.{hopper_left, deck_left, own_cards, cards_and_data, IsNewHopper}
 use Rattle.cpu_step.specs.declared.machine.Machine.{Machine}
 use Rattle.cpu_step.specs.State.{UnitTexts}
 use Rattle.cpu_step.specs.Load.{state_at_power_on, load_key}
@@ -22,16 +22,16 @@ use Rattle.card_columns.specs.Types.{card_bytes}
 use Rattle.command_line.specs.declared.reading.Settings.{Settings}
 use Rattle.ibm1620_cli.specs.declared.answer.Answer.{Answer}
 use Rattle.ibm1620_cli.specs.Promise.{KeepsPromise}
-use Rattle.ibm1620_cli.specs.Turns.{Feed, feed_of, feed_at, lines_of_feed, state_over_feed, state_over, first_over, LoadedMachine, turns_promise}
+use Rattle.ibm1620_cli.specs.Turns.{MachineFeed, feed_of, feed_at, lines_of_feed, state_over_feed, state_over, first_over, LoadedMachine, turns_promise}
 use Rattle.ibm1620_cli.specs.Program.{Program, Fits, deck_of, steps_of_deck, cards_before, set_up_at_power_on, set_up_after_load, loaded_by, program_promise, KeepsProgramPromise}
 use Rattle.ibm1620_cli.specs.Parts.{Executes}
 use Rattle.ibm1620_cli.proofs.SetUps.{set_up_after_steps, machine_after_steps}
-use Rattle.ibm1620_cli.proofs.Told.{all_some}
+use Rattle.ibm1620_cli.proofs.ToldValues.{all_some}
 use Rattle.ibm1620_cli.proofs.Entering.{over_powered}
 use Rattle.ibm1620_cli.proofs.StepEvents.{program_taken}
 use Rattle.ibm1620_cli.proofs.Stepping.{last_stands}
-use Rattle.ibm1620_cli.proofs.Turned.{IsLoaded}
-use Rattle.ibm1620_cli.proofs.Executed.{steps_loaded, promise_executes}
+use Rattle.ibm1620_cli.proofs.TurnPromises.{IsLoaded}
+use Rattle.ibm1620_cli.proofs.DeckPromises.{steps_loaded, promise_executes}
 
 fed : (m : ℕ) (cards : List (List ℕ)) (rest keys : Option (List ℕ)) (sectors : Option (ℕ → List ℕ)) (written : UnitTexts)
     → over_all (λ es ks pack. state_at_power_on m es ks written pack) (option_map (hopper_of cards []) rest) (option_map (entries_of_unit units.Keys 0) keys) sectors
@@ -59,11 +59,11 @@ module _ (p : Program) (fits : Fits p) where
 
   -- over the texts of a world, and under a script
   module _ (w : World) (lines : List ScriptLine) where
-    abbrev loaded : Feed → LoadedMachine
+    abbrev loaded : MachineFeed → LoadedMachine
     loaded feed = loaded_by p feed (state_over w (set_up_at_power_on p feed)) (first_over w (set_up_after_load p feed) lines)
 
     -- behind its deck's steps, which take its cards, the program is loaded
-    is_loaded : (λ (feed : Feed). machine_after_steps p.modules k w lines (map Text (deck_of p)) (cards_before (deck_of p) feed) feed) ≡ loaded
+    is_loaded : (λ (feed : MachineFeed). machine_after_steps p.modules k w lines (map Text (deck_of p)) (cards_before (deck_of p) feed) feed) ≡ loaded
     unfolding set_up_after_steps set_up_after_load
     is_loaded = λ i feed. record {
       powered = state_over w (set_up_at_power_on p feed);
@@ -75,20 +75,20 @@ module _ (p : Program) (fits : Fits p) where
       first = first_over w (λ written. last_stands k (load_key (set_up_at_power_on p feed written)) (over_powered p feed written fits).running i) lines;
     }
 
-    pub program_loaded : (feed : Feed) → IsLoaded (loaded feed)
-    program_loaded feed = subst (λ (l : Feed → LoadedMachine). IsLoaded (l feed)) is_loaded (steps_loaded p.modules k w lines (map Text (deck_of p)) (cards_before (deck_of p) feed) feed)
+    pub program_loaded : (feed : MachineFeed) → IsLoaded (loaded feed)
+    program_loaded feed = subst (λ (l : MachineFeed → LoadedMachine). IsLoaded (l feed)) is_loaded (steps_loaded p.modules k w lines (map Text (deck_of p)) (cards_before (deck_of p) feed) feed)
 
   promise_program : (limit : ℕ) (hopper : Hopper) (script : Script) (start new : Seen) (answer : Answer)
-      → ((w : World) → hopper_left hopper w ≡ cards_and_data (deck_of p) w) → ((w : World) → deck_left hopper w ≡ Some (map Text (deck_of p))) → own_cards hopper ≡ Some (deck_of p) → Begins hopper → Executes p.modules k limit hopper script start new answer
+      → ((w : World) → hopper_left hopper w ≡ cards_and_data (deck_of p) w) → ((w : World) → deck_left hopper w ≡ Some (map Text (deck_of p))) → own_cards hopper ≡ Some (deck_of p) → IsNewHopper hopper → Executes p.modules k limit hopper script start new answer
       → KeepsPromise (program_promise [] limit (lines_left script) p start.world) start new answer
   promise_program limit hopper script start new answer holds deck own begins executes =
-      subst (λ (l : Feed → LoadedMachine). KeepsPromise (turns_promise (Some (deck_of p)) [] limit l (feed_at start.world)) start new answer) (is_loaded start.world (lines_left script))
+      subst (λ (l : MachineFeed → LoadedMachine). KeepsPromise (turns_promise (Some (deck_of p)) [] limit l (feed_at start.world)) start new answer) (is_loaded start.world (lines_left script))
       (promise_executes p.modules k limit (Some (deck_of p)) [] (λ feed. map Text (deck_of p)) (cards_before (deck_of p)) (λ feed. feed) (feed_at start.world) hopper script start start (powered_state p.modules (deck_of p) hopper start.world holds) (omega arith) (did_none start.world) (λ u read. refl) tt own begins
       (pile_told (deck_of p) hopper start.world deck) new answer executes)
 
 pub keeps_program_promise : (m : ℕ) (settings : Settings) (steps : ℕ) (cards : List Card) (hopper : Hopper) (script : Script) (start new : Seen) (answer : Answer) → ((w : World) → hopper_left hopper w ≡ cards_and_data (map card_bytes cards) w)
     → ((w : World) → deck_left hopper w ≡ Some (map Text (map card_bytes cards))) → own_cards hopper ≡ Some (map card_bytes cards)
-    → Begins hopper → steps ≡ steps_in settings.form (length cards) → Executes m steps settings.limit hopper script start new answer → KeepsProgramPromise m settings (map card_bytes cards) (lines_left script) start new answer
+    → IsNewHopper hopper → steps ≡ steps_in settings.form (length cards) → Executes m steps settings.limit hopper script start new answer → KeepsProgramPromise m settings (map card_bytes cards) (lines_left script) start new answer
 keeps_program_promise m settings steps cards hopper script start new answer holds deck own begins steps_are executes p fits sized same is =
     promise_program p fits settings.limit hopper script start new answer (λ w. holds w ∙ ap (λ (texts : List (List ℕ)). cards_and_data texts w) is) (λ w. deck w ∙ ap (λ (texts : List (List ℕ)). Some (map Text texts)) is) (own ∙ ap (λ (texts : List (List ℕ)). Some texts) is) begins
     (subst (λ (n : ℕ). Executes p.modules n settings.limit hopper script start new answer) (steps_are ∙ ap (steps_in settings.form) (sym (length-map cards card_bytes) ∙ ap length is) ∙ ap (λ (f : DeckForm). steps_in f (length (deck_of p))) (sym same))

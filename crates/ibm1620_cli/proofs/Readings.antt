@@ -18,11 +18,11 @@ use Rattle.ibm1620_cli.specs.declared.status.Status.TheVariants.{TooLong}
 use Rattle.ibm1620_cli.specs.Reading.{read_within, text_read}
 use Rattle.ibm1620_cli.specs.Inputs.{EndsOnce, reads_both}
 use Rattle.ibm1620_cli.specs.Report.{report_line}
-use Rattle.ibm1620_cli.specs.Promise.{Job, ShowsRefusal, Unasked, unasked, StopsAt, texts_alone, Promise, KeepsPromise, job_read, read_promise, Texts, with_texts, world_with_texts, AreTold, KeepsFrom, KeepsJob}
-use Rattle.ibm1620_cli.specs.Parts.{Reports, IsAlone, TakesFrom, Loses, Unread, refused, failed, lacking, Stays}
-use Rattle.ibm1620_cli.proofs.Told.{if_some, all_some}
+use Rattle.ibm1620_cli.specs.Promise.{Job, ShowsRefusal, Unasked, unasked, StopsAt, texts_alone, Promise, KeepsPromise, job_read, read_promise, InputTexts, with_texts, world_with_texts, AreTold, KeepsFrom, KeepsJob}
+use Rattle.ibm1620_cli.specs.Parts.{Reports, IsAlone, TakesFrom, Loses, Unread, refused, failed, lacking, LeavesUnread}
+use Rattle.ibm1620_cli.proofs.ToldValues.{if_some, all_some}
 use Rattle.ibm1620_cli.proofs.TakenInputs.{unasked_on, asks_behind}
-use Rattle.ibm1620_cli.proofs.Kept.{ReadyJob, once_same, once_first, report_stays, stays_both, stays_on, stays_less, promise_report, promise_fault, promise_lacking, none_part}
+use Rattle.ibm1620_cli.proofs.KeptPromises.{ReadyJob, once_same, once_first, report_stays, stays_both, stays_on, stays_less, promise_report, promise_fault, promise_lacking, none_part}
 
 -- what a unit holds, by what is told or else by what was taken
 pub told_or : (o : Option (List ℕ)) (a : List ℕ) → IfSome o (λ all. all ≡ unwrap_or o a)
@@ -34,7 +34,7 @@ told_holds P None a told other = other
 told_holds P (Some x) a told other = told
 
 -- all that is told, and no byte where nothing is
-abbrev pub texts_told : World → Texts
+abbrev pub texts_told : World → InputTexts
 texts_told w = record { script = unwrap_or (w.left units.Script) []; commands = unwrap_or (w.left units.Commands) []; source = unwrap_or (w.left units.Source) [] }
 
 pub are_told : (w : World) → AreTold (texts_told w) w
@@ -46,19 +46,19 @@ keeps_told promise w old new answer same kept = record { texts = texts_told w; t
 
 -- A UNIT IS READ: what was read of it, in the texts that are told
 pub record Tells (u : unit.Unit) (w : World) : Type 1 where
-  pub with : List ℕ → Texts
+  pub with : List ℕ → InputTexts
   pub reads : (text : List ℕ) → with_texts (with text) w.left u ≡ Some text
   pub told : (text : List ℕ) → IfSome (w.left u) (λ all. all ≡ text) → AreTold (with text) w
 
 -- among these texts, the others of which are told
-abbrev pub tells_script : (w : World) (t : Texts) → IfSome (w.left units.Commands) (λ all. all ≡ t.commands) → IfSome (w.left units.Source) (λ all. all ≡ t.source) → Tells units.Script w
+abbrev pub tells_script : (w : World) (t : InputTexts) → IfSome (w.left units.Commands) (λ all. all ≡ t.commands) → IfSome (w.left units.Source) (λ all. all ≡ t.source) → Tells units.Script w
 tells_script w t commands source = record {
   with = λ text. record t { script = text };
   reads = λ text. refl;
   told = λ text is. record { script = is; commands = commands; source = source };
 }
 
-abbrev pub tells_commands : (w : World) (t : Texts) → IfSome (w.left units.Script) (λ all. all ≡ t.script) → IfSome (w.left units.Source) (λ all. all ≡ t.source) → Tells units.Commands w
+abbrev pub tells_commands : (w : World) (t : InputTexts) → IfSome (w.left units.Script) (λ all. all ≡ t.script) → IfSome (w.left units.Source) (λ all. all ≡ t.source) → Tells units.Commands w
 tells_commands w t script source = record {
   with = λ text. record t { commands = text };
   reads = λ text. refl;
@@ -211,7 +211,7 @@ once_by gone true o once = once_asked gone o once
 once_by gone false o once = once_same o o refl
 
 -- where a unit is read, all others keep what they had, and are not asked
-gone_stays : (u : unit.Unit) (gone : Readings) (old new : Seen) → gone.ends ≤ 1 → Goes old new (world_after_take u gone old.world) → Stays (Only u) old.world new.world
+gone_stays : (u : unit.Unit) (gone : Readings) (old new : Seen) → gone.ends ≤ 1 → Goes old new (world_after_take u gone old.world) → LeavesUnread (Only u) old.world new.world
 gone_stays u gone old new once goes = record {
   in_use = ap (λ (w : World). w.in_use) goes.world;
   names = ap (λ (w : World). w.names) goes.world;
@@ -221,20 +221,20 @@ gone_stays u gone old new once goes = record {
   once = λ v fed. once_first (old.world.asked v) _ (new.world.asked v) (once_by gone (same_unit u v) (old.world.asked v) once) (ap (λ (w : World). w.asked v) goes.world);
 }
 
-pub takes_stays : (u : unit.Unit) (old new : Seen) (Says : List ℕ → Type 0) → TakesFrom u old new Says → Stays (Only u) old.world new.world
+pub takes_stays : (u : unit.Unit) (old new : Seen) (Says : List ℕ → Type 0) → TakesFrom u old new Says → LeavesUnread (Only u) old.world new.world
 takes_stays u old new Says takes = gone_stays u takes.gone old new takes.once takes.goes
 
-pub unread_stays : {A : Type 0} (u : unit.Unit) (read : List ℕ → Result A Status) (old new : Seen) (s : Status) → Unread u read old new s → Stays (Only u) old.world new.world
+pub unread_stays : {A : Type 0} (u : unit.Unit) (read : List ℕ → Result A Status) (old new : Seen) (s : Status) → Unread u read old new s → LeavesUnread (Only u) old.world new.world
 unread_stays u read old new s (refused takes own plain) = takes_stays u old new _ takes
 unread_stays u read old new s (failed loses is rose) = gone_stays u loses.gone old new loses.once loses.goes
 unread_stays u read old new s (lacking loses is) = gone_stays u loses.gone old new loses.once loses.goes
 
 -- a unit was read, and then others were
-pub read_then : (u : unit.Unit) (q : unit.Unit → Bool) (old mid new : Seen) (Says : List ℕ → Type 0) → q u ≡ false → TakesFrom u old mid Says → Stays q mid.world new.world → Stays (reads_both (Only u) q) old.world new.world
+pub read_then : (u : unit.Unit) (q : unit.Unit → Bool) (old mid new : Seen) (Says : List ℕ → Type 0) → q u ≡ false → TakesFrom u old mid Says → LeavesUnread q mid.world new.world → LeavesUnread (reads_both (Only u) q) old.world new.world
 read_then u q old mid new Says apart takes rest = stays_both u q old.world mid.world new.world apart (takes_stays u old mid Says takes) rest
 
 -- or it could not be, and that was reported
-pub unread_then : {A : Type 0} (u : unit.Unit) (q : unit.Unit → Bool) (read : List ℕ → Result A Status) (old mid new : Seen) (s answer : Status) → Unread u read old mid s → Reports mid new s answer → Stays (reads_both (Only u) q) old.world new.world
+pub unread_then : {A : Type 0} (u : unit.Unit) (q : unit.Unit → Bool) (read : List ℕ → Result A Status) (old mid new : Seen) (s answer : Status) → Unread u read old mid s → Reports mid new s answer → LeavesUnread (reads_both (Only u) q) old.world new.world
 unread_then u q read old mid new s answer unread reports =
     stays_less (Only u) q old.world new.world (stays_on (Only u) old.world mid.world new.world (unread_stays u read old mid s unread) (report_stays mid new s (report_line s) answer reports))
 

@@ -9,15 +9,15 @@ use Rattle.sps_pass_one.specs.Layout.{Refusal}
 use Rattle.ibm1620_cli.specs.declared.status.Status.TheVariants.{HostFault, OutOfMemory}
 use Rattle.ibm1620_cli.specs.declared.answer.Answer.{Answer}
 use Rattle.ibm1620_cli.specs.declared.source.SoundSource.{SoundSource}
-use Rattle.ibm1620_cli.specs.Promise.{ProgramTexts, Job, job_with_program, LeavesMachine, ShowsRefusal, ShowsStatement, AsksForInputs, Ends, StopsAt, FaultEnd, MemoryEnd, OwnEnd, answer_of, Promise, promise_with_program, KeepsPromise, is_own, is_usage}
+use Rattle.ibm1620_cli.specs.Promise.{ProgramTexts, Job, job_with_program, LeavesMachine, ShowsRefusal, ShowsStatement, AsksForInputs, EndsWithAnswer, StopsAt, FaultEnd, MemoryEnd, OwnEnd, answer_of, Promise, promise_with_program, KeepsPromise, is_own, is_usage}
 use Rattle.ibm1620_cli.specs.Source.{texts_of_program, promise_by, running_promise}
-use Rattle.ibm1620_cli.specs.Parts.{IsSound, program_of_sound, AddsStatement}
-use Rattle.ibm1620_cli.proofs.Told.{if_mapped}
+use Rattle.ibm1620_cli.specs.Parts.{IsSoundSource, program_of_sound, AddsStatement}
+use Rattle.ibm1620_cli.proofs.ToldValues.{if_mapped}
 use Rattle.ibm1620_cli.proofs.Sources.{FollowsSource}
 
 -- WITH THE STATEMENT AT IR a promise is kept of a machine that runs a program
 module _ (p : ProgramTexts) (c : Promise) (old new : Seen) (answer stated : Answer) (adds : AddsStatement p answer stated) where
-  ends_stated : answer.status ≢ HostFault → (j : Job) → Ends j old new answer → Ends (job_with_program p j) old new stated
+  ends_stated : answer.status ≢ HostFault → (j : Job) → EndsWithAnswer j old new answer → EndsWithAnswer (job_with_program p j) old new stated
   ends_stated sound j all = record {
     status = adds.status ∙ all.status;
     did = all.did;
@@ -36,7 +36,7 @@ module _ (p : ProgramTexts) (c : Promise) (old new : Seen) (answer stated : Answ
   own_stated own = record {
     own = ap is_own adds.status ∙ own.own;
     usage_is = ap is_usage adds.status ∙ own.usage_is;
-    all = if_mapped (λ j. Ends j old new stated) (λ j. Ends j old new answer) c.job (job_with_program p) (ends_stated (λ fault. true≢false (sym own.own ∙ ap is_own fault))) own.all;
+    all = if_mapped (λ j. EndsWithAnswer j old new stated) (λ j. EndsWithAnswer j old new answer) c.job (job_with_program p) (ends_stated (λ fault. true≢false (sym own.own ∙ ap is_own fault))) own.all;
   }
 
   fault_stated : FaultEnd c old new answer → FaultEnd (promise_with_program p c) old new stated
@@ -69,11 +69,11 @@ module _ (p : ProgramTexts) (c : Promise) (old new : Seen) (answer stated : Answ
   promise_stated (inr (inr lacks)) = inr (inr (memory_stated lacks))
 
 -- what was assembled of a sound source is its program
-program_is : (m : ℕ) (sound : SoundSource) → IsSound m sound → program_of_sound sound ≡ texts_of_program m sound.source.items
+program_is : (m : ℕ) (sound : SoundSource) → IsSoundSource m sound → program_of_sound sound ≡ texts_of_program m sound.source.items
 program_is m sound is = λ i. record { source = sound.source.items; placed = is.placed_are i }
 
 -- a machine ran the program of a sound source
-pub promise_ran : (m : ℕ) (next : List ℕ → World → Promise) (sound : SoundSource) (old new : Seen) (answer stated : Answer) → IsSound m sound → AddsStatement (program_of_sound sound) answer stated
+pub promise_ran : (m : ℕ) (next : List ℕ → World → Promise) (sound : SoundSource) (old new : Seen) (answer stated : Answer) → IsSoundSource m sound → AddsStatement (program_of_sound sound) answer stated
     → KeepsPromise (next sound.source.items old.world) old new answer → KeepsPromise (running_promise m next sound.source.items old.world) old new stated
 promise_ran m next sound old new answer stated is adds kept =
     subst (λ (p : ProgramTexts). KeepsPromise (promise_with_program p (next sound.source.items old.world)) old new stated) (program_is m sound is)

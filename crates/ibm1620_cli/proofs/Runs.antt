@@ -16,18 +16,18 @@ use Rattle.ibm1620_cli.specs.declared.answer.Answer.{Answer}
 use Rattle.ibm1620_cli.specs.declared.status.Status.TheVariants.{HostFault, OutOfMemory}
 use Rattle.ibm1620_cli.specs.Makings.{AreMakings}
 use Rattle.ibm1620_cli.specs.Report.{report_line}
-use Rattle.ibm1620_cli.specs.Promise.{Job, job_behind, answer_of, Unasked, StopsAt, texts_alone, Promise, world_with_texts, Texts, KeepsPromise}
+use Rattle.ibm1620_cli.specs.Promise.{Job, job_behind, answer_of, Unasked, StopsAt, texts_alone, Promise, world_with_texts, InputTexts, KeepsPromise}
 use Rattle.cpu_step.specs.State.{UnitTexts}
 use Rattle.cpu_step.specs.Machine.{machine_texts}
-use Rattle.ibm1620_cli.specs.Turns.{Feed, feed_at, LoadedMachine, turns_job, turns_promise, first_in}
+use Rattle.ibm1620_cli.specs.Turns.{MachineFeed, feed_at, LoadedMachine, turns_job, turns_promise, first_in}
 use Rattle.ibm1620_cli.specs.Program.{deck_of, set_up_at_power_on, set_up_after_load, loaded_by, program_promise}
 use Rattle.ibm1620_cli.specs.Source.{SourceTexts, program_of, made_of, made_events, events_by, events_of_source, events_at, promise_by, running_promise}
 use Rattle.ibm1620_cli.specs.RunJob.{turned_promise, script_promise}
 use Rattle.ibm1620_cli.specs.Parts.{StopsWithin}
-use Rattle.ibm1620_cli.proofs.Told.{map_twice}
+use Rattle.ibm1620_cli.proofs.ToldValues.{map_twice}
 use Rattle.ibm1620_cli.proofs.Writes.{stops_fails, stops_asked}
 use Rattle.ibm1620_cli.proofs.TakenInputs.{goes_unasked, stops_unasked}
-use Rattle.ibm1620_cli.proofs.Kept.{promise_made, promise_memory}
+use Rattle.ibm1620_cli.proofs.KeptPromises.{promise_made, promise_memory}
 use Rattle.ibm1620_cli.proofs.Sources.{FollowsSource, source_apart}
 use Rattle.ibm1620_cli.proofs.Makings.{makings_of, made_take, made_world, made_keeps_texts}
 
@@ -61,10 +61,10 @@ module _ (m : ℕ) (settings : Settings) (lines : List ScriptLine) (source : Lis
   abbrev deck : List (List ℕ)
   deck = deck_of (program_of m settings.form source)
 
-  abbrev loaded_at : UnitTexts → Feed → LoadedMachine
+  abbrev loaded_at : UnitTexts → MachineFeed → LoadedMachine
   loaded_at texts feed = loaded_by (program_of m settings.form source) feed (set_up_at_power_on (program_of m settings.form source) feed texts) (first_in (set_up_after_load (program_of m settings.form source) feed texts) lines)
 
-  abbrev loaded : World → Feed → LoadedMachine
+  abbrev loaded : World → MachineFeed → LoadedMachine
   loaded w feed = loaded_at (machine_texts w) feed
 
   -- the texts are written, and then the turns are taken
@@ -76,7 +76,7 @@ module _ (m : ℕ) (settings : Settings) (lines : List ScriptLine) (source : Lis
       (subst (λ (texts : UnitTexts). KeepsPromise (turns_promise (Some deck) [] settings.limit (loaded_at texts) (feed_at start.world)) mid new answer) (made_keeps_texts made start.world)
       (subst (λ (v : World). KeepsPromise (turns_promise (Some deck) [] settings.limit (loaded v) (feed_at v)) mid new answer) (goes.world ∙ made_world made start.world) kept))
 
-  job_part : (o : Option Feed) (at : Feed → LoadedMachine) (start new : Seen) → Unasked start.world new.world → DidPart (made_events made) start.world new.world → IfSome (option_map (λ feed. turns_job (Some deck) (made_events made) settings.limit (at feed)) o) (λ j. StopsAt j None start.world new.world)
+  job_part : (o : Option MachineFeed) (at : MachineFeed → LoadedMachine) (start new : Seen) → Unasked start.world new.world → DidPart (made_events made) start.world new.world → IfSome (option_map (λ feed. turns_job (Some deck) (made_events made) settings.limit (at feed)) o) (λ j. StopsAt j None start.world new.world)
   job_part None at start new still p = tt
   job_part (Some feed) at start new still p =
       stops_unasked (turns_job (Some deck) (made_events made) settings.limit (at feed)) (made_events made) _ start.world new.world (append_assoc (made_events made) ((at feed).taken ++ run_events settings.limit (at feed).first) _) (made_take made) still p
@@ -89,7 +89,7 @@ module _ (m : ℕ) (settings : Settings) (lines : List ScriptLine) (source : Lis
       inr (inl (record { status = stops.0; refusal = refl; statement = refl; rose = fails.rose; part = job_part (feed_at start.world) (loaded start.world) start new (stops_asked (made_events made) start new stops.1) fails.part }))
 
 -- what is done behind the script is so whatever was taken from it, and whatever it was
-pub run_apart : (m : ℕ) (settings : Settings) (lines : List ScriptLine) (gone : Readings) (script : List ℕ) (t : Texts) (w : World) → script_promise m settings lines (world_with_texts t (world_after_take units.Script gone w)) ≡ script_promise m settings lines (world_with_texts (record t { script = script }) w)
+pub run_apart : (m : ℕ) (settings : Settings) (lines : List ScriptLine) (gone : Readings) (script : List ℕ) (t : InputTexts) (w : World) → script_promise m settings lines (world_with_texts t (world_after_take units.Script gone w)) ≡ script_promise m settings lines (world_with_texts (record t { script = script }) w)
 run_apart m settings lines gone script t w = source_apart m (events_at m settings.form) (running_promise m (turned_promise m settings lines)) (world_with_texts t (world_after_take units.Script gone w)) (world_with_texts (record t { script = script }) w) refl refl (λ source. refl)
 
 -- the texts that may be there where no memory was found

@@ -19,14 +19,14 @@ use Rattle.sps_listing.specs.Refused.{refused_text}
 use Rattle.ibm1620_cli.specs.declared.status.Status.{Status}
 use Rattle.ibm1620_cli.specs.declared.answer.Answer.{Answer}
 use Rattle.ibm1620_cli.specs.declared.status.Status.TheVariants.{Refused, TooLong, OutOfMemory}
-use Rattle.ibm1620_cli.specs.Promise.{unasked, ShowsRefusal, answer_of, Making, texts_alone, Promise, KeepsPromise, Texts, world_with_texts, KeepsJob, nothing_done}
+use Rattle.ibm1620_cli.specs.Promise.{unasked, ShowsRefusal, answer_of, Making, texts_alone, Promise, KeepsPromise, InputTexts, world_with_texts, KeepsJob, nothing_done}
 use Rattle.ibm1620_cli.specs.declared.source.SoundSource.{SoundSource}
 use Rattle.ibm1620_cli.specs.Inputs.{reads_nothing, reads_source, reads_both}
 use Rattle.ibm1620_cli.specs.Report.{report_line}
 use Rattle.ibm1620_cli.specs.Reading.{text_read}
 use Rattle.ibm1620_cli.specs.Source.{longest_source, source_read, promise_by, assembly_promise, source_promise}
-use Rattle.ibm1620_cli.specs.Parts.{Reports, Refuses, RefusesOrLacks, TakesFrom, Unread, AssemblesOrRefuses, ReadsSource, RefusesSource, breaks, no_memory, EndsAtSource, without, with_broken, Stays}
-use Rattle.ibm1620_cli.proofs.Kept.{report_stays, stays_on, stays_less, stays_same, promise_report, promise_memory}
+use Rattle.ibm1620_cli.specs.Parts.{Reports, RefusesAndShows, RefusesOrLacks, TakesFrom, Unread, AssemblesOrRefuses, ReadsSource, RefusesSource, breaks, no_memory, EndsAtSource, without, with_broken, LeavesUnread}
+use Rattle.ibm1620_cli.proofs.KeptPromises.{report_stays, stays_on, stays_less, stays_same, promise_report, promise_memory}
 use Rattle.ibm1620_cli.proofs.Readings.{takes_stays, unread_stays, source_alone, promise_unread, keeps_read, read_apart}
 
 -- how a short source is read
@@ -77,12 +77,12 @@ source_apart m made next w v left same_made same =
 pub record FollowsSource (m : ℕ) (made : World → Option (List Event)) (next : List ℕ → World → Promise) (source : List ℕ) : Type 1 where
   pub plain : (w : World) → (next source w).usage ≡ false
   pub unbound : (w : World) → (next source w).made.bindings ≡ []
-  pub apart : (gone : Readings) (t : Texts) (w : World) → next source (world_after_take units.Source gone w) ≡ next source (world_with_texts t w)
+  pub apart : (gone : Readings) (t : InputTexts) (w : World) → next source (world_after_take units.Source gone w) ≡ next source (world_with_texts t w)
   pub texts : (o : Option Refusal) (w : World) (P : List Event → Type 0) → refusal_of (size m) source ≡ o → IfSome (w.left units.Source) (λ text. text ≡ source) → IfSome (promise_by next source o w).made.texts P → IfSome (made w) P
 
 -- its first broken statement is reported
 pub refused_promise : (next : List ℕ → World → Promise) (source : List ℕ) (o : Option Refusal) (start new : Seen) (statement : ℕ) (rule : Rule) (part : Option ℕ) (answer : Answer) → option_map statement_and_fault o ≡ Some (statement, record { rule = rule; part = part })
-    → Refuses source statement rule part start new answer → KeepsPromise (promise_by next source o start.world) start new answer
+    → RefusesAndShows source statement rule part start new answer → KeepsPromise (promise_by next source o start.world) start new answer
 refused_promise next source None start new statement rule part answer is refuses = cc
 refused_promise next source (Some r) start new statement rule part answer is refuses =
     let fault : Fault = record { rule = rule; part = part } in
@@ -147,7 +147,7 @@ made_nothing : (next : List ℕ → World → Promise) (source : List ℕ) (o : 
 made_nothing next source None w P is here = subst (λ (made : Making). IfSome made.texts P) is here
 made_nothing next source (Some r) w P is here = here
 
-pub follows_nothing : (m : ℕ) (next : List ℕ → World → Promise) (source : List ℕ) → ((w : World) → (next source w).usage ≡ false) → ((gone : Readings) (t : Texts) (w : World) → next source (world_after_take units.Source gone w) ≡ next source (world_with_texts t w)) → ((w : World) → (next source w).made ≡ texts_alone (Some [])) → FollowsSource m nothing_done next source
+pub follows_nothing : (m : ℕ) (next : List ℕ → World → Promise) (source : List ℕ) → ((w : World) → (next source w).usage ≡ false) → ((gone : Readings) (t : InputTexts) (w : World) → next source (world_after_take units.Source gone w) ≡ next source (world_with_texts t w)) → ((w : World) → (next source w).made ≡ texts_alone (Some [])) → FollowsSource m nothing_done next source
 follows_nothing m next source plain apart nothing = record { plain = plain; unbound = λ w. ap (λ (made : Making). made.bindings) (nothing w); apart = apart; texts = λ o w P good told here. made_nothing next source o w P (nothing w) here }
 
 -- a source is refused by its first broken statement, or there was no memory for that
@@ -158,16 +158,16 @@ refuses_source m source old new statement rule part answer broken (inr lacks) = 
 -- WHAT IS READ
 
 -- a refusal reads nothing
-pub refuses_stays : (m : ℕ) (source : List ℕ) (old new : Seen) (answer : Answer) → RefusesSource m source old new answer → Stays reads_nothing old.world new.world
+pub refuses_stays : (m : ℕ) (source : List ℕ) (old new : Seen) (answer : Answer) → RefusesSource m source old new answer → LeavesUnread reads_nothing old.world new.world
 refuses_stays m source old new answer (breaks statement rule part broken refuses) = report_stays old new (Refused statement rule) (refusal_line source statement rule part) answer.status refuses.reports
 refuses_stays m source old new answer (no_memory is same) = stays_same reads_nothing old new same
 
 -- where a job ends at its source, nothing else is read
-pub ended_stays : (m : ℕ) (old new : Seen) (answer : Answer) → EndsAtSource m old new answer → Stays reads_source old.world new.world
+pub ended_stays : (m : ℕ) (old new : Seen) (answer : Answer) → EndsAtSource m old new answer → LeavesUnread reads_source old.world new.world
 ended_stays m old new answer (without mid s unread reports alone) =
     stays_on reads_source old.world mid.world new.world (unread_stays units.Source source_read old mid s unread) (report_stays mid new s (report_line s) answer.status reports)
 ended_stays m old new answer (with_broken mid source takes refuses) =
     stays_on reads_source old.world mid.world new.world (takes_stays units.Source old mid (λ text. source_read text ≡ Ok source) takes) (refuses_stays m source mid new answer refuses)
 
-pub ended_then : (q : unit.Unit → Bool) (m : ℕ) (old new : Seen) (answer : Answer) → EndsAtSource m old new answer → Stays (reads_both reads_source q) old.world new.world
+pub ended_then : (q : unit.Unit → Bool) (m : ℕ) (old new : Seen) (answer : Answer) → EndsAtSource m old new answer → LeavesUnread (reads_both reads_source q) old.world new.world
 ended_then q m old new answer ended = stays_less reads_source q old.world new.world (ended_stays m old new answer ended)

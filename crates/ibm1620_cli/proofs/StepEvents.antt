@@ -15,7 +15,7 @@ use Rattle.operator_script.specs.Run.{IsQuiet}
 use Rattle.operator_script.specs.TurnEvents.{step_events, events_within, run_events}
 use Rattle.operator_script.proofs.Turning.{turn_steps, counts_differ}
 use Rattle.card_steps.specs.Steps.{after_steps, events_of_steps, deck_taken}
-use Rattle.ibm1620_cli.specs.Turns.{Feed, first_in}
+use Rattle.ibm1620_cli.specs.Turns.{MachineFeed, first_in}
 use Rattle.ibm1620_cli.specs.Program.{Program, Fits, deck_of, steps_of_deck, set_up_at_power_on}
 use Rattle.ibm1620_cli.proofs.Entering.{over_powered}
 
@@ -51,7 +51,7 @@ events_made n s running =
     ap (λ (j : ℕ). events_within n j (place s 0 [])) turns ∙ events_on n 0 n n 0 s [] (omega arith) (omega arith) (λ j below. refl) running ∙ append-nil (events_of_steps n s)
 
 -- the Load key over a deck and the data cards, and the deck's steps, take the cards of the deck
-pub program_taken : (p : Program) (feed : Feed) (written : UnitTexts) → Fits p
+pub program_taken : (p : Program) (feed : MachineFeed) (written : UnitTexts) → Fits p
     → load_events (set_up_at_power_on p feed written) ++ run_events (steps_of_deck p) (first_in (load_key (set_up_at_power_on p feed written)) []) ≡ deck_taken (deck_of p)
 program_taken p feed written fits =
     let s : State = set_up_at_power_on p feed written in

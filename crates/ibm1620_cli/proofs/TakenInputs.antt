@@ -18,7 +18,7 @@ use Rattle.cpu_step.proofs.Readers.{hopper_same}
 use Rattle.ibm1620_cli.specs.Makings.{AreMakings}
 use Rattle.ibm1620_cli.specs.Job.{bind_event, bind_events}
 use Rattle.ibm1620_cli.specs.Ways.{Way}
-use Rattle.ibm1620_cli.specs.Promise.{Rest, Job, HasLeft, TakesNone, Unasked, AsksForInputs, unasked, asked, StopsAt}
+use Rattle.ibm1620_cli.specs.Promise.{MachineEnd, Job, HasLeft, TakesNone, Unasked, AsksForInputs, unasked, asked, StopsAt}
 
 -- HOW MANY
 
@@ -89,7 +89,7 @@ taken_behind before ds s t none taken =
     taken_on before ds s s t (record { cards = ap (λ (n : ℕ). drop n s.hopper) (sym none.0); lines = ap (λ (n : ℕ). drop n s.keys) (sym none.1) }) taken
 
 -- inputs that have these cards and lines left have them left by any other name
-pub left_as : (r : Rest) (cards keys more_cards more_keys : List Entry) (s : State) (shown : Option Console) (w : World) → cards ≡ more_cards → keys ≡ more_keys → HasLeft r cards keys s shown w → HasLeft r more_cards more_keys s shown w
+pub left_as : (r : MachineEnd) (cards keys more_cards more_keys : List Entry) (s : State) (shown : Option Console) (w : World) → cards ≡ more_cards → keys ≡ more_keys → HasLeft r cards keys s shown w → HasLeft r more_cards more_keys s shown w
 left_as r cards keys more_cards more_keys s shown w same_cards same_keys has = record {
   hopper = has.hopper;
   keyboard = has.keyboard;
@@ -102,7 +102,7 @@ left_as r cards keys more_cards more_keys s shown w same_cards same_keys has = r
 }
 
 -- inputs are left so as long as nothing is taken of them, and none is asked
-pub left_same : (r : Rest) (cards keys : List Entry) (s : State) (shown : Option Console) (w v : World) → v.left ≡ w.left → v.asked ≡ w.asked → HasLeft r cards keys s shown w → HasLeft r cards keys s shown v
+pub left_same : (r : MachineEnd) (cards keys : List Entry) (s : State) (shown : Option Console) (w v : World) → v.left ≡ w.left → v.asked ≡ w.asked → HasLeft r cards keys s shown w → HasLeft r cards keys s shown v
 left_same r cards keys s shown w v left still has =
     let left_at : (u : unit.Unit) → v.left u ≡ w.left u = λ u. ap (λ (f : unit.Unit → Option (List ℕ)). f u) left in
     let asked_at : (u : unit.Unit) → v.asked u ≡ w.asked u = λ u. ap (λ (f : unit.Unit → Option Asked). f u) still in
@@ -137,7 +137,7 @@ goes_unasked ds old new goes u read = ap (λ (w : World). w.asked u) goes.world 
 -- WHERE A JOB STOPS
 
 -- as the inputs were left and asked, so they stay
-pub asks_on : (rest : Option Rest) (way : Option Way) (done more : List Event) (shown : Option Console) (old mid new : World) → TakesSame more done → new.left ≡ mid.left → new.asked ≡ mid.asked → AsksForInputs rest way done shown old mid
+pub asks_on : (rest : Option MachineEnd) (way : Option Way) (done more : List Event) (shown : Option Console) (old mid new : World) → TakesSame more done → new.left ≡ mid.left → new.asked ≡ mid.asked → AsksForInputs rest way done shown old mid
     → AsksForInputs rest way more shown old new
 asks_on rest way done more shown old mid new same left still (unasked none before dark) = unasked (same.0 ∙ none.0, same.1 ∙ none.1) (λ u read. ap (λ (f : unit.Unit → Option Asked). f u) still ∙ before u read) dark
 asks_on rest way done more shown old mid new same left still (asked r is s stands has) =
@@ -147,7 +147,7 @@ asks_on rest way done more shown old mid new same left still (asked r is s stand
     (ap (λ (n : ℕ). drop n r.cards) (sym same.0)) (ap (λ (n : ℕ). drop n r.keys) (sym same.1)) has))
 
 -- behind what takes none, and asks for none
-pub asks_behind : (rest : Option Rest) (way : Option Way) (before done : List Event) (shown : Option Console) (old mid new : World) → TakesNone before → Unasked old mid → AsksForInputs rest way done shown mid new
+pub asks_behind : (rest : Option MachineEnd) (way : Option Way) (before done : List Event) (shown : Option Console) (old mid new : World) → TakesNone before → Unasked old mid → AsksForInputs rest way done shown mid new
     → AsksForInputs rest way (before ++ done) shown old new
 asks_behind rest way before done shown old mid new none still (unasked none_more more dark) = unasked (takes_neither before done none none_more) (unasked_on old mid new still more) dark
 asks_behind rest way before done shown old mid new none still (asked r is s stands has) =

@@ -17,17 +17,17 @@ use Rattle.ibm1620_cli.specs.declared.status.Status.{Status}
 use Rattle.ibm1620_cli.specs.declared.answer.Answer.{Answer}
 use Rattle.ibm1620_cli.specs.declared.status.Status.TheVariants.{HostFault, OutOfMemory}
 use Rattle.ibm1620_cli.specs.Inputs.{reads_nothing}
-use Rattle.ibm1620_cli.specs.Promise.{Job, answer_of, Ends, StopsAt, Promise, KeepsPromise}
-use Rattle.ibm1620_cli.specs.Turns.{Feed, feed_at, state_over, first_over, LoadedMachine, turns_job}
+use Rattle.ibm1620_cli.specs.Promise.{Job, answer_of, EndsWithAnswer, StopsAt, Promise, KeepsPromise}
+use Rattle.ibm1620_cli.specs.Turns.{MachineFeed, feed_at, state_over, first_over, LoadedMachine, turns_job}
 use Rattle.ibm1620_cli.specs.Program.{Program, Fits, deck_of, set_up_at_power_on, set_up_after_load, loaded_by}
 use Rattle.ibm1620_cli.specs.Source.{card_count, program_of, made_of, made_events, promise_by, running_promise}
 use Rattle.ibm1620_cli.specs.RunJob.{turned_promise}
 use Rattle.ibm1620_cli.specs.TrialJob.{trial_modules, trial_settings, steps_of, trial_line, line_behind, job_of_trial, with_trial, tried_promise, trial_promise}
-use Rattle.ibm1620_cli.specs.Parts.{RefusesSource, breaks, no_memory, ReportsBy, ReportsTrial, StopsWithin, Stays}
-use Rattle.ibm1620_cli.proofs.Told.{if_some, all_some, if_both}
+use Rattle.ibm1620_cli.specs.Parts.{RefusesSource, breaks, no_memory, ReportsBy, ReportsTrial, StopsWithin, LeavesUnread}
+use Rattle.ibm1620_cli.proofs.ToldValues.{if_some, all_some, if_both}
 use Rattle.ibm1620_cli.proofs.Leaving.{rest_reported}
-use Rattle.ibm1620_cli.proofs.Kept.{stops_reported, promise_memory, report_stays, stays_same}
-use Rattle.ibm1620_cli.proofs.Turned.{HasInputs, turns_inputs, ended_asks}
+use Rattle.ibm1620_cli.proofs.KeptPromises.{stops_reported, promise_memory, report_stays, stays_same}
+use Rattle.ibm1620_cli.proofs.TurnPromises.{HasInputs, turns_inputs, ended_asks}
 use Rattle.ibm1620_cli.proofs.Programs.{program_loaded}
 use Rattle.ibm1620_cli.proofs.Makings.{made_take}
 use Rattle.ibm1620_cli.proofs.Sources.{refused_promise}
@@ -59,7 +59,7 @@ module _ (statements number cards : ℕ) (c : Promise) (start mid : Seen) (ran :
   without none (inl own) = inl (record {
     own = own.own;
     usage_is = own.usage_is;
-    all = if_map tried c.job (λ j. Ends j start mid ran) (if_some c.job (λ j all. record {
+    all = if_map tried c.job (λ j. EndsWithAnswer j start mid ran) (if_some c.job (λ j all. record {
       status = all.status;
       did = subst (λ (ds : List Event). DidAll ds start.world mid.world) (sym (ap (λ (l : List ℕ). j.events ++ text_events units.Report l) (line_by j None all.status none) ∙ append-nil j.events)) all.did;
       rest = all.rest;
@@ -92,7 +92,7 @@ module _ (statements number cards : ℕ) (c : Promise) (start mid : Seen) (ran :
     with_done new goes (inl own) = inl (record {
       own = own.own;
       usage_is = own.usage_is;
-      all = if_map tried c.job (λ j. Ends j start new ran) (if_some c.job (λ j all. record {
+      all = if_map tried c.job (λ j. EndsWithAnswer j start new ran) (if_some c.job (λ j all. record {
         status = all.status;
         did = subst (λ (l : List ℕ). DidAll (j.events ++ text_events units.Report l) start.world new.world) (sym (line_by j (Some steps) all.status counts))
             (did_on j.events (text_events units.Report line) start.world mid.world new.world all.did (did_text units.Report line mid.world new.world goes.world));
@@ -125,7 +125,7 @@ module _ (statements number cards : ℕ) (c : Promise) (start mid : Seen) (ran :
   promise_with new status later unrefused unstated inputs (Some steps) counts (inr stops) kept = rw stops.0 (with_part steps counts new later unrefused unstated inputs stops.1 kept)
 
 -- the line binds nothing, and reads nothing
-pub trial_stays : (o : Option ℕ) (statements number cards : ℕ) (old new : Seen) (status answer : Status) → ReportsBy o statements number cards old new status answer → Stays reads_nothing old.world new.world
+pub trial_stays : (o : Option ℕ) (statements number cards : ℕ) (old new : Seen) (status answer : Status) → ReportsBy o statements number cards old new status answer → LeavesUnread reads_nothing old.world new.world
 trial_stays None statements number cards old new status answer nothing = stays_same reads_nothing old new nothing.1
 trial_stays (Some steps) statements number cards old new status answer reports = report_stays old new status (trial_line statements number cards steps) answer reports
 
@@ -143,7 +143,7 @@ module _ (settings : Settings) (source : List ℕ) (start : Seen) where
   abbrev texts : List Event
   texts = made_events (made_of trial_modules SelfLoading source)
 
-  abbrev loaded : Feed → LoadedMachine
+  abbrev loaded : MachineFeed → LoadedMachine
   loaded feed = loaded_by program feed (state_over start.world (set_up_at_power_on program feed)) (first_over start.world (set_up_after_load program feed) [])
 
   counts_none : (s : Status) (new : Seen) → ((s ≡ OutOfMemory) × (new ≡ start)) ⊎ ((s ≡ HostFault) × StopsWithin (made_events (made_of trial_modules SelfLoading source)) start new) → steps_of s ≡ None

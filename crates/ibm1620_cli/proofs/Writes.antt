@@ -23,9 +23,9 @@ use Rattle.operator_script.proofs.Actions.{of_action}
 use Rattle.ibm1620_cli.specs.Inputs.{reads_pack}
 use Rattle.ibm1620_cli.specs.Promise.{Unasked}
 use Rattle.ibm1620_cli.specs.Headline.{bytes_in}
-use Rattle.ibm1620_cli.specs.Parts.{StopsWithin, EventsOccur, Stays}
+use Rattle.ibm1620_cli.specs.Parts.{StopsWithin, EventsOccur, LeavesUnread}
 use Rattle.ibm1620_cli.proofs.TakenInputs.{goes_unasked}
-use Rattle.ibm1620_cli.proofs.Kept.{once_same}
+use Rattle.ibm1620_cli.proofs.KeptPromises.{once_same}
 
 -- no file is bound; sectors are written only where the pack is worked with
 abbrev pub AreWritesOf : (unit.Unit → Bool) → List Event → Type 0
@@ -65,7 +65,7 @@ no_both : {A : Type 0} (b : Bool) → b ≡ true → b ≡ false → A
 no_both true is none = cc
 no_both false is none = cc
 
-pub bound_as : (r : unit.Unit → Bool) (ds : List Event) (w : World) → AreWritesOf r ds → Stays r w (after_events w ds)
+pub bound_as : (r : unit.Unit → Bool) (ds : List Event) (w : World) → AreWritesOf r ds → LeavesUnread r w (after_events w ds)
 bound_as r [] w are = record { in_use = refl; names = refl; left = λ u unread. refl; sectors = λ none. refl; asked = λ u unread. refl; once = λ u fed. once_same (w.asked u) (w.asked u) refl }
 bound_as r (BindFile u name ∷ ds) w are = absurd are
 bound_as r (WriteByte u byte ∷ ds) w are = let rest = bound_as r ds (after_event w (WriteByte u byte)) are in record { in_use = rest.in_use; names = rest.names; left = rest.left; sectors = rest.sectors; asked = rest.asked; once = rest.once }
@@ -76,10 +76,10 @@ bound_as r (TakeCard ∷ ds) w are = bound_as r ds w are
 bound_as r (TakeLine ∷ ds) w are = bound_as r ds w are
 
 -- what is bound stays so, and nothing is read, whether all of them were done or not
-pub does_binds : (r : unit.Unit → Bool) (ds : List Event) (old new : Seen) (how : Sent) → AreWritesOf r ds → EventsOccur ds old new how → Stays r old.world new.world
-does_binds r ds old new sent.Done are goes = subst (Stays r old.world) (sym goes.world) (bound_as r ds old.world are)
+pub does_binds : (r : unit.Unit → Bool) (ds : List Event) (old new : Seen) (how : Sent) → AreWritesOf r ds → EventsOccur ds old new how → LeavesUnread r old.world new.world
+does_binds r ds old new sent.Done are goes = subst (LeavesUnread r old.world) (sym goes.world) (bound_as r ds old.world are)
 does_binds r ds old new sent.Failed are stops =
-    subst (Stays r old.world) (sym stops.goes.world) (bound_as r stops.done old.world (writes_front r stops.done stops.part.0 (subst (AreWritesOf r) (sym stops.part.1) are)))
+    subst (LeavesUnread r old.world) (sym stops.goes.world) (bound_as r stops.done old.world (writes_front r stops.done stops.part.0 (subst (AreWritesOf r) (sym stops.part.1) are)))
 
 -- ONE BEHIND THE OTHER
 

@@ -2,14 +2,14 @@
 use Rattle.std.specs.Prelude.{ℕ, List}
 use Rattle.outside_io.specs.World.{Seen}
 use Rattle.ibm1620_cli.specs.declared.answer.Answer.{Answer}
-use Rattle.ibm1620_cli.specs.Job.{Tells, BindsSaid, KeepsUnread}
+use Rattle.ibm1620_cli.specs.Job.{TellsAnswer, BindsSaid, KeepsUnread}
 use Rattle.ibm1620_cli.specs.Headline.{Headline}
 use Rattle.ibm1620_cli.specs.Endings.{TrialEnds, SessionEnds}
 use Rattle.ibm1620_cli.specs.RoundTrip.{DiskRoundTrip, RoundTrip}
 
 -- the job of the words is done, and this is answered: all that is said of `ibm1620_answer`
 pub record AnswersJob (words : List (List ℕ)) (old new : Seen) (answer : Answer) : Type 0 where
-  pub told : Tells words old new answer
+  pub told : TellsAnswer words old new answer
   pub bound : BindsSaid words old new answer.status
   pub unread : KeepsUnread words old new
   pub headline : Headline words old new answer

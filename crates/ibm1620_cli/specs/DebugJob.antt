@@ -20,7 +20,7 @@ use Rattle.ibm1620_cli.specs.declared.status.Status.TheVariants.{BadCommand}
 use Rattle.ibm1620_cli.specs.declared.answer.Answer.{Answer}
 use Rattle.ibm1620_cli.specs.Promise.{Promise, KeepsPromise, KeepsJob, read_promise}
 use Rattle.ibm1620_cli.specs.Reading.{read_within}
-use Rattle.ibm1620_cli.specs.Turns.{Feed, feed_at, lines_of_feed, SetUp, state_over, first_over, LoadedMachine}
+use Rattle.ibm1620_cli.specs.Turns.{MachineFeed, feed_at, lines_of_feed, SetUp, state_over, first_over, LoadedMachine}
 use Rattle.ibm1620_cli.specs.Sessions.{Debugging, session_promise}
 use Rattle.ibm1620_cli.specs.Program.{Program, deck_of, cards_before, set_up_at_power_on}
 use Rattle.ibm1620_cli.specs.Source.{assembled_source, program_of, made_of, made_events, events_at, running_promise, source_promise}
@@ -41,11 +41,11 @@ commands_read m text =
     read_within longest_commands units.Commands (λ t. commands_or_status (commands_of (size m) t)) text
 
 -- the Load key was pressed at power on over a program's deck
-abbrev pub keyed_program : Program → Feed → SetUp
+abbrev pub keyed_program : Program → MachineFeed → SetUp
 keyed_program p feed written = load_key (set_up_at_power_on p feed written)
 
 -- so it is loaded, over the texts of a world: the session begins at the deck's first card
-abbrev pub keyed_over : Program → World → List ScriptLine → Feed → LoadedMachine
+abbrev pub keyed_over : Program → World → List ScriptLine → MachineFeed → LoadedMachine
 keyed_over p w lines feed = record {
   powered = state_over w (set_up_at_power_on p feed);
   steps = 0;

@@ -27,12 +27,12 @@ abbrev pub placing_status : ℕ → List ℕ → Status
 placing_status m source = Placed (length (sectors_of_source m source)) (length (boot_cards m source))
 
 -- what is written one after another: the deck, the image, and the sectors
-pub record Placing : Type 0 where
+pub record DiskPlacing : Type 0 where
   pub deck : List ℕ
   pub image : List ℕ
   pub sectors : List SectorText
 
-abbrev pub disk_placing : ℕ → List ℕ → Placing
+abbrev pub disk_placing : ℕ → List ℕ → DiskPlacing
 disk_placing m source = record {
   deck = deck_text (boot_cards m source);
   image = image_text (assembled_source m source).pieces;
@@ -44,7 +44,7 @@ abbrev pub sector_events : List SectorText → List Event
 sector_events sectors = map (λ s. WriteSector s.sector s.text) sectors
 
 -- all of a placing, thing by thing: the bytes of the deck, then those of the image, and then the sectors, rising
-abbrev pub placing_events : Placing → List Event
+abbrev pub placing_events : DiskPlacing → List Event
 placing_events p = text_events units.Object p.deck ++ (text_events units.Image p.image ++ sector_events p.sectors)
 
 -- what is done for such a source: all of it, and then the report line; no memory is taken once a byte is written
@@ -60,38 +60,38 @@ abbrev pub disk_promise : ℕ → World → Promise
 disk_promise m = source_promise m nothing_done (placing_promise m)
 
 -- the world once the deck, the image and the sectors are written, one after another
-abbrev pub with_boot : Placing → World → World
+abbrev pub with_boot : DiskPlacing → World → World
 with_boot p w = world_after_put units.Object p.deck w
 
-abbrev pub with_boot_image : Placing → World → World
+abbrev pub with_boot_image : DiskPlacing → World → World
 with_boot_image p w = world_after_put units.Image p.image (with_boot p w)
 
-abbrev pub with_placed : Placing → World → World
+abbrev pub with_placed : DiskPlacing → World → World
 with_placed p w = world_after p.sectors (with_boot_image p w)
 
 -- both texts are whole, and all sectors are written besides
-pub record AreTextsWhole (p : Placing) (old new : World) : Type 0 where
+pub record AreTextsWhole (p : DiskPlacing) (old new : World) : Type 0 where
   pub deck : new.written units.Object ≡ (with_boot_image p old).written units.Object
   pub image : new.written units.Image ≡ (with_boot_image p old).written units.Image
 
-pub record IsAllPlaced (p : Placing) (old new : World) : Type 0 where
+pub record IsAllPlaced (p : DiskPlacing) (old new : World) : Type 0 where
   pub texts : AreTextsWhole p old new
   pub sectors : new.sectors ≡ (with_placed p old).sectors
 
 -- THE ORDER OF A PLACING: no sector is written before both texts are whole, and no byte is reported before all of it is written
-pub record IsInOrder (p : Placing) (old new : World) : Type 0 where
+pub record IsInOrder (p : DiskPlacing) (old new : World) : Type 0 where
   pub sectors : (new.sectors ≡ old.sectors) ⊎ AreTextsWhole p old new
   pub report : (new.written units.Report ≡ old.written units.Report) ⊎ IsAllPlaced p old new
 
 -- whatever first part of a placing and its report line is done, it is in this order
 abbrev pub PlacingLaw : Type 0
-PlacingLaw = (p : Placing) (line : List ℕ) (old new : World)
+PlacingLaw = (p : DiskPlacing) (line : List ℕ) (old new : World)
     → DidPart (placing_events p ++ text_events units.Report line) old new → IsInOrder p old new
 
 -- What the functions of this job answer.
 
 -- the placing of what was assembled, where this is its deck
-abbrev pub placing_with : List ℕ → assembled.Assembled → Placing
+abbrev pub placing_with : List ℕ → assembled.Assembled → DiskPlacing
 placing_with deck a = record {
   deck = deck;
   image = image_text a.image.pieces;

@@ -7,11 +7,11 @@ use Rattle.operator_script.specs.declared.script.ScriptLine.{ScriptLine}
 use Rattle.console_debug.specs.declared.commands.DebugCommand as commands
 use Rattle.sps_pass_two.specs.Broken.{refusal_of}
 use Rattle.command_line.specs.declared.words.Command.TheVariants.{Debug, Trial}
-use Rattle.command_line.specs.Words.{Said, plain}
+use Rattle.command_line.specs.Words.{WordsSaid, plain}
 use Rattle.ibm1620_cli.specs.declared.status.Status.{Status}
 use Rattle.ibm1620_cli.specs.declared.status.Status.TheVariants.{Refused, SessionEnded, OutOfMemory}
 use Rattle.ibm1620_cli.specs.Binding.{all_bound}
-use Rattle.ibm1620_cli.specs.Turns.{Feed, feed_at, ends_a_run}
+use Rattle.ibm1620_cli.specs.Turns.{MachineFeed, feed_at, ends_a_run}
 use Rattle.ibm1620_cli.specs.Source.{source_read}
 use Rattle.ibm1620_cli.specs.LoadJob.{script_read}
 use Rattle.ibm1620_cli.specs.DebugJob.{commands_read}
@@ -19,10 +19,10 @@ use Rattle.ibm1620_cli.specs.Job.{modules_of}
 
 -- a trial: the words say `trial`, and the host tells what the machine is fed with; its source is made of the words alone
 pub record FedTrial (words : List (List ℕ)) (w : World) : Type 0 where
-  pub said : Said
+  pub said : WordsSaid
   pub said_is : plain words ≡ Some said
   pub command : said.command ≡ Trial
-  pub feed : Feed
+  pub feed : MachineFeed
   pub feed_is : feed_at (all_bound said.names w) ≡ Some feed
 
 -- a statement of the source breaks a rule
@@ -39,7 +39,7 @@ TrialEnds words old new answer =
 -- a sound session: the words say `debug`; its script, its commands and its source are read, and no statement of the source breaks a rule.
 -- The host tells their bytes, and what the machine is fed with.
 pub record SoundSession (words : List (List ℕ)) (w : World) : Type 0 where
-  pub said : Said
+  pub said : WordsSaid
   pub said_is : plain words ≡ Some said
   pub command : said.command ≡ Debug
   pub script : List ℕ
@@ -54,7 +54,7 @@ pub record SoundSession (words : List (List ℕ)) (w : World) : Type 0 where
   pub source_is : (all_bound said.names w).left units.Source ≡ Some source
   pub source_fits : source_read source ≡ Ok source
   pub unbroken : refusal_of (size (modules_of said.core)) source ≡ None
-  pub feed : Feed
+  pub feed : MachineFeed
   pub feed_is : feed_at (all_bound said.names w) ≡ Some feed
 
 -- Such a session, in which no call of the host failed and memory was found, comes to its end.

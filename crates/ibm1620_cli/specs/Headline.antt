@@ -11,11 +11,11 @@ use Rattle.sps_pass_two.specs.Broken.{refusal_of}
 use Rattle.ibm1620_cli.specs.declared.answer.Answer.{Answer}
 use Rattle.ibm1620_cli.specs.declared.status.Status.TheVariants.{OutOfMemory}
 use Rattle.command_line.specs.declared.words.Command.TheVariants.{Run}
-use Rattle.command_line.specs.Words.{Said, plain}
+use Rattle.command_line.specs.Words.{WordsSaid, plain}
 use Rattle.ibm1620_cli.specs.Job.{modules_of, bind_events}
 use Rattle.ibm1620_cli.specs.Binding.{all_bound}
-use Rattle.ibm1620_cli.specs.Promise.{Job, job_behind, job_with_program, Ends}
-use Rattle.ibm1620_cli.specs.Turns.{Feed, feed_at, state_over, first_over, turns_job, ends_a_run}
+use Rattle.ibm1620_cli.specs.Promise.{Job, job_behind, job_with_program, EndsWithAnswer}
+use Rattle.ibm1620_cli.specs.Turns.{MachineFeed, feed_at, state_over, first_over, turns_job, ends_a_run}
 use Rattle.ibm1620_cli.specs.Program.{Program, deck_of, loaded_by, LoadsItself, set_up_at_power_on, set_up_after_load, set_up_at_start}
 use Rattle.ibm1620_cli.specs.LoadJob.{longest_script}
 use Rattle.ibm1620_cli.specs.Source.{program_of, texts_of_program, made_of, made_events, longest_source}
@@ -29,7 +29,7 @@ bytes_in u (d ∷ ds) = bytes_in u ds
 -- A sound run: the words say `run`; its script and its source are no longer than they may be; the script keeps its grammar, and no
 -- statement of the source breaks a rule. The host tells their bytes, and what the machine is fed with.
 pub record SoundRun (words : List (List ℕ)) (w : World) : Type 0 where
-  pub said : Said
+  pub said : WordsSaid
   pub said_is : plain words ≡ Some said
   pub command : said.command ≡ Run
   pub script : List ℕ
@@ -41,7 +41,7 @@ pub record SoundRun (words : List (List ℕ)) (w : World) : Type 0 where
   pub source_is : (all_bound said.names w).left units.Source ≡ Some source
   pub source_fits : length source ≤ longest_source
   pub unbroken : refusal_of (size (modules_of said.core)) source ≡ None
-  pub feed : Feed
+  pub feed : MachineFeed
   pub feed_is : feed_at (all_bound said.names w) ≡ Some feed
 
 -- its program, whose deck has the form that the words say
@@ -71,7 +71,7 @@ pub record DoesProgram {words : List (List ℕ)} (old : Seen) (r : SoundRun word
     : Type 0 where
   pub loads : LoadsItself (program_in r)
   pub enters : set_up_after_load (program_in r) r.feed ≡ set_up_at_start (program_in r) r.feed
-  pub does : Ends (job_in r) old new answer
+  pub does : EndsWithAnswer (job_in r) old new answer
   pub texts : (u : unit.Unit) → IfSome (new.world.written u) (λ text. text ≡ bytes_in u (job_in r).events)
   pub ending : ends_a_run answer.status ≡ true
 

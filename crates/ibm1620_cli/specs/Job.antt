@@ -13,7 +13,7 @@ use Rattle.command_line.specs.declared.words.Command.TheVariants.{Assemble, Load
 use Rattle.command_line.specs.declared.words.CoreSize.{CoreSize}
 use Rattle.command_line.specs.declared.words.CoreSize.TheVariants.{OneModule, TwoModules, ThreeModules}
 use Rattle.command_line.specs.declared.reading.Settings.{Settings}
-use Rattle.command_line.specs.Words.{Names, Said, plain, names_of}
+use Rattle.command_line.specs.Words.{Names, WordsSaid, plain, names_of}
 use Rattle.ibm1620_cli.specs.Binding.{all_bound, BindsNamed}
 use Rattle.ibm1620_cli.specs.Inputs.{EndsOnce, reads_nothing, reads_source, reads_feed, placing_reads, load_reads, run_reads, debug_reads}
 use Rattle.ibm1620_cli.specs.Promise.{answer_of, job_with_report, texts_alone, Promise, promise_behind, KeepsPromise, KeepsFrom, KeepsJob}
@@ -62,7 +62,7 @@ bind_events [] names = []
 bind_events (u ∷ us) names = bind_event u (names u) ++ bind_events us names
 
 -- all files are bound, and then the job of the command is done in the world where they are
-abbrev pub said_promise : Said → World → Promise
+abbrev pub said_promise : WordsSaid → World → Promise
 said_promise said bound =
     promise_behind (bind_events all_units said.names) (job_promise (modules_of said.core) said.command said.settings bound)
 
@@ -71,11 +71,11 @@ abbrev pub usage_promise : Promise
 usage_promise = record { job = Some (job_with_report Usage []); made = texts_alone (Some []); usage = true }
 
 -- what plain words say, from the world at the entry
-abbrev pub DoesSaid : Said → Seen → Seen → Answer → Type 0
+abbrev pub DoesSaid : WordsSaid → Seen → Seen → Answer → Type 0
 DoesSaid said old new answer = KeepsFrom (said_promise said) (all_bound said.names old.world) old new answer
 
 -- WHAT THE PROGRAM DOES: for plain words what they say
-abbrev pub DoesWords : Option Said → Seen → Seen → Answer → Type 0
+abbrev pub DoesWords : Option WordsSaid → Seen → Seen → Answer → Type 0
 DoesWords None old new answer = KeepsPromise usage_promise old new answer
 DoesWords (Some said) old new answer = DoesSaid said old new answer
 
@@ -90,8 +90,8 @@ pub record LacksWords (words : List (List ℕ)) (old new : Seen) (status : Statu
   pub nothing : new ≡ old
 
 -- what the program answers: texts, sectors and console are those of one moment of what it does
-abbrev pub Tells : List (List ℕ) → Seen → Seen → Answer → Type 0
-Tells words old new answer =
+abbrev pub TellsAnswer : List (List ℕ) → Seen → Seen → Answer → Type 0
+TellsAnswer words old new answer =
     DoesWords (plain words) old new answer ⊎ (LacksWords words old new answer.status × (answer ≡ answer_of OutOfMemory))
 
 -- a status is that of an answer of which this holds
@@ -108,7 +108,7 @@ BindsSaid words old new answer =
 -- Each input that the command does not read keeps all that it had: the bytes of its file, where one is bound to it, and else those from
 -- before. And it is not asked. So does the pack keep its sectors, where the command does not work with it. An input that no machine works with,
 -- as Source, Script and Commands, is found to have no more once at most.
-pub record KeepsFiles (said : Said) (old new : Seen) : Type 0 where
+pub record KeepsFiles (said : WordsSaid) (old new : Seen) : Type 0 where
   pub left : (u : unit.Unit) → reads said.command u ≡ false
       → new.world.left u
       ≡ (if new.world.in_use u then (all_bound said.names old.world).left u else old.world.left u)
@@ -119,7 +119,7 @@ pub record KeepsFiles (said : Said) (old new : Seen) : Type 0 where
   pub once : (u : unit.Unit) → reads_feed u ≡ false → EndsOnce (old.world.asked u) (new.world.asked u)
 
 -- for words that are not plain no input is asked at all
-abbrev pub KeepsSaid : Option Said → Seen → Seen → Type 0
+abbrev pub KeepsSaid : Option WordsSaid → Seen → Seen → Type 0
 KeepsSaid None old new =
     (new.world.left ≡ old.world.left) × (new.world.sectors ≡ old.world.sectors) × (new.world.asked ≡ old.world.asked)
 KeepsSaid (Some said) old new = KeepsFiles said old new
@@ -130,12 +130,12 @@ KeepsUnread words old new = KeepsSaid (plain words) old new
 
 -- What the functions behind plain words answer.
 
-abbrev pub BindsFiles : Said → Seen → Seen → Status → Type 0
+abbrev pub BindsFiles : WordsSaid → Seen → Seen → Status → Type 0
 BindsFiles said old new answer = BindsNamed said.names old.world new.world answer
 
 -- once the files are bound, by a machine with so many modules of core
-abbrev pub DoesJobIn : ℕ → Said → Seen → Seen → Answer → Type 0
+abbrev pub DoesJobIn : ℕ → WordsSaid → Seen → Seen → Answer → Type 0
 DoesJobIn m said old new answer = KeepsJob (job_promise m said.command said.settings) old new answer
 
-abbrev pub DoesJob : Said → Seen → Seen → Answer → Type 0
+abbrev pub DoesJob : WordsSaid → Seen → Seen → Answer → Type 0
 DoesJob said old new answer = DoesJobIn (modules_of said.core) said old new answer

@@ -16,14 +16,14 @@ use Rattle.ibm1620_cli.specs.declared.status.Status.TheVariants.{BadScript}
 use Rattle.ibm1620_cli.specs.declared.answer.Answer.{Answer}
 use Rattle.ibm1620_cli.specs.Promise.{Promise, KeepsPromise, KeepsJob, read_promise, nothing_done}
 use Rattle.ibm1620_cli.specs.Reading.{read_within}
-use Rattle.ibm1620_cli.specs.Turns.{Feed, feed_at, state_over_feed, lines_of_feed, SetUp, state_over, first_over, LoadedMachine, turns_promise}
+use Rattle.ibm1620_cli.specs.Turns.{MachineFeed, feed_at, state_over_feed, lines_of_feed, SetUp, state_over, first_over, LoadedMachine, turns_promise}
 
 -- what a load stands on: the bytes of the deck, and what the machine is fed with besides
 pub record Loading : Type 0 where
   pub deck : List ℕ
-  pub feed : Feed
+  pub feed : MachineFeed
 
-abbrev pub loading_of : Option (List ℕ) → Option Feed → Option Loading
+abbrev pub loading_of : Option (List ℕ) → Option MachineFeed → Option Loading
 loading_of deck feed = option_and_then (λ d. option_map (λ f. record { deck = d; feed = f }) feed) deck
 
 abbrev pub loading_at : World → Option Loading

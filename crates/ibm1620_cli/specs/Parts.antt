@@ -11,7 +11,7 @@ use Rattle.outside_io.specs.Whole.{Stops}
 use Rattle.card_unit.specs.declared.hopper.Hopper.{Hopper}
 use Rattle.cpu_step.specs.declared.machine.Machine.{Machine}
 use Rattle.cpu_step.specs.Load.{load_key, load_cut}
-use Rattle.cpu_step.specs.Machine.{IsPowered, Makes, Breaks}
+use Rattle.cpu_step.specs.Machine.{IsPowered, Makes, StopsShort}
 use Rattle.cpu_step.specs.Console.{shown_on}
 use Rattle.operator_script.specs.declared.turns.Ending.{Ending}
 use Rattle.operator_script.specs.declared.script.Script.{Script}
@@ -29,7 +29,7 @@ use Rattle.sps_listing.specs.Texts.{image_text, refusal_line}
 use Rattle.sps_listing.specs.Refused.{refused_text}
 use Rattle.sps_listing.specs.Listing.{listing_text, placed_texts}
 use Rattle.console_debug.specs.declared.commands.Commands.{Commands}
-use Rattle.console_debug.specs.CommandLists.{IsCommand, HasRoom, command_list}
+use Rattle.console_debug.specs.CommandLists.{IsCommand, HasBreakRoom, command_list}
 use Rattle.console_debug.specs.Debugs.{task, without_count, EndsSession, BreaksSession}
 use Rattle.deck_punch.specs.declared.form.DeckForm.{DeckForm}
 use Rattle.loader_cards.specs.ObjectDeck.{fewest_in}
@@ -56,7 +56,7 @@ ReportsAs old new status line answer =
     ⊎ ((answer ≡ HostFault) × Stops old new units.Report line)
 
 -- a refusal is reported, and shown: the statement, the rule that it breaks, and what breaks it there; nothing is shown where the host failed
-pub record Refuses (source : List ℕ) (statement : ℕ) (rule : Rule) (part : Option ℕ) (old new : Seen) (answer : Answer) : Type 0 where
+pub record RefusesAndShows (source : List ℕ) (statement : ℕ) (rule : Rule) (part : Option ℕ) (old new : Seen) (answer : Answer) : Type 0 where
   pub reports : ReportsAs old new (Refused statement rule) (refusal_line source statement rule part) answer.status
   pub console : answer.console ≡ None
   pub unstated : answer.statement ≡ None
@@ -66,7 +66,7 @@ pub record Refuses (source : List ℕ) (statement : ℕ) (rule : Rule) (part : O
 -- so it is refused; or no memory was found, and nothing is done
 abbrev pub RefusesOrLacks : List ℕ → ℕ → Rule → Option ℕ → Seen → Seen → Answer → Type 0
 RefusesOrLacks source statement rule part old new answer =
-    Refuses source statement rule part old new answer ⊎ ((answer ≡ answer_of OutOfMemory) × (new ≡ old))
+    RefusesAndShows source statement rule part old new answer ⊎ ((answer ≡ answer_of OutOfMemory) × (new ≡ old))
 
 -- the report line of a status
 abbrev pub Reports : Seen → Seen → Status → Status → Type 0
@@ -80,7 +80,7 @@ pub record IsAlone (answer : Answer) : Type 0 where
 
 -- the same units are in use, bound to the same names; inputs that are not read keep all that they had, and are not asked; one that no machine
 -- works with is found to have no more once at most; and a pack that is not worked with keeps what it had
-pub record Stays (reads : unit.Unit → Bool) (old new : World) : Type 0 where
+pub record LeavesUnread (reads : unit.Unit → Bool) (old new : World) : Type 0 where
   pub in_use : new.in_use ≡ old.in_use
   pub names : new.names ≡ old.names
   pub left : (u : unit.Unit) → reads u ≡ false → new.left u ≡ old.left u
@@ -127,7 +127,7 @@ ReadsScript m old new (Err s) = Unread units.Script (script_read m) old new s
 -- the commands fit so many modules of core, and there is room for their breakpoints
 pub record AreReady (m : ℕ) (commands : Commands) : Type 0 where
   pub fits : All (IsCommand (size m)) (command_list commands)
-  pub room : HasRoom commands
+  pub room : HasBreakRoom commands
 
 -- the reading of the commands
 abbrev pub ReadsCommands : ℕ → Seen → Seen → Result Commands Status → Type 0
@@ -137,18 +137,18 @@ ReadsCommands m old new (Ok commands) =
 ReadsCommands m old new (Err s) = Unread units.Commands (commands_read m) old new s
 
 -- a source breaks no rule, and this was assembled of it
-abbrev pub IsSound : ℕ → SoundSource → Type 0
-IsSound m sound = IsAssembled (size m) sound.source.items sound.assembled
+abbrev pub IsSoundSource : ℕ → SoundSource → Type 0
+IsSoundSource m sound = IsAssembled (size m) sound.source.items sound.assembled
 
 -- A source is refused: its first broken statement is reported. Or there was no memory.
 pub data RefusesSource (m : ℕ) (source : List ℕ) (old new : Seen) (answer : Answer) : Type 0 where
   breaks : (statement : ℕ) (rule : Rule) (part : Option ℕ) → Assembles (size m) source (Err (Broken statement rule part))
-      → Refuses source statement rule part old new answer → RefusesSource m source old new answer
+      → RefusesAndShows source statement rule part old new answer → RefusesSource m source old new answer
   no_memory : answer ≡ answer_of OutOfMemory → new ≡ old → RefusesSource m source old new answer
 
 -- a source is assembled, and nothing is done outside; or it is refused, and the error is the answer of the job
 abbrev pub AssemblesOrRefuses : ℕ → List ℕ → Seen → Seen → Result SoundSource Answer → Type 0
-AssemblesOrRefuses m source old new (Ok sound) = (sound.source.items ≡ source) × IsSound m sound × (new ≡ old)
+AssemblesOrRefuses m source old new (Ok sound) = (sound.source.items ≡ source) × IsSoundSource m sound × (new ≡ old)
 AssemblesOrRefuses m source old new (Err answer) = RefusesSource m source old new answer
 
 -- a job ends because it has no source, or one that is refused
@@ -160,7 +160,7 @@ pub data EndsAtSource (m : ℕ) (old new : Seen) (answer : Answer) : Type 0 wher
 -- the source is read and assembled, or the job has ended with the error
 abbrev pub ReadsSource : ℕ → Seen → Seen → Result SoundSource Answer → Type 0
 ReadsSource m old new (Ok sound) =
-    TakesFrom units.Source old new (λ text. source_read text ≡ Ok sound.source.items) × IsSound m sound
+    TakesFrom units.Source old new (λ text. source_read text ≡ Ok sound.source.items) × IsSoundSource m sound
 ReadsSource m old new (Err answer) = EndsAtSource m old new answer
 
 -- the texts of what was assembled, where this is its object deck
@@ -238,7 +238,7 @@ pub record BreaksKey (m : ℕ) (hopper : Hopper) (old new : Seen) : Type 0 where
   pub machine : Machine m
   pub keyed : Machine m
   pub powered : IsPowered m hopper machine
-  pub breaks : Breaks m load_cut machine keyed old new
+  pub breaks : StopsShort m load_cut machine keyed old new
 
 -- a machine was powered on over a hopper, and its Load key was pressed
 pub record PressesKey (m : ℕ) (hopper : Hopper) (old new : Seen) : Type 0 where

@@ -8,14 +8,14 @@ use Rattle.digit_core.specs.{zero_cell, size}
 use Rattle.digit_core.specs.Size.{IsSize}
 use Rattle.indicators.specs.Panel.{dark, set}
 use Rattle.disk_1311.specs.declared.TheConstants.{DRIVES}
-use Rattle.card_code.specs.Entries.{Entry, Text, hopper_of, entries_of_unit, is_empty}
+use Rattle.card_code.specs.Entries.{Entry, Text, hopper_of, entries_of_unit, has_none_left}
 use Rattle.indicators.specs.declared.codes.TheConstants.{LAST_CARD}
 use Rattle.cpu_step.specs.declared.machine.Mode.TheVariants.{Running}
 use Rattle.cpu_step.specs.State.{UnitTexts, State}
 use Rattle.cpu_step.specs.Load.{load_key}
 use Rattle.operator_script.specs.declared.script.ScriptLine.{ScriptLine}
 use Rattle.operator_script.specs.Turn.{RunPlace}
-use Rattle.sps_pass_two.specs.{Run, IsPiece, IsBelow, lowest_declared}
+use Rattle.sps_pass_two.specs.{DigitRun, IsPiece, IsRunBelow, lowest_declared}
 use Rattle.deck_punch.specs.declared.form.DeckForm.{DeckForm}
 use Rattle.loader_cards.specs.ObjectDeck.{deck_in, steps_in}
 use Rattle.deck_punch.specs.Overlay.{overlay}
@@ -25,13 +25,13 @@ use Rattle.command_line.specs.declared.reading.Settings.{Settings}
 use Rattle.ibm1620_cli.specs.declared.answer.Answer.{Answer}
 use Rattle.outside_io.specs.Events.{Event}
 use Rattle.ibm1620_cli.specs.Promise.{Promise, KeepsPromise}
-use Rattle.ibm1620_cli.specs.Turns.{Feed, feed_at, state_over_feed, lines_of_feed, SetUp, state_over, first_in, first_over, LoadedMachine, turns_job, turns_promise}
+use Rattle.ibm1620_cli.specs.Turns.{MachineFeed, feed_at, state_over_feed, lines_of_feed, SetUp, state_over, first_in, first_over, LoadedMachine, turns_job, turns_promise}
 
 -- what a source deck without a broken rule comes to, the form in which its object deck is punched, and how many modules of core it is for
 pub record Program : Type 0 where
   pub modules : ℕ
   pub form : DeckForm
-  pub image : List Run
+  pub image : List DigitRun
   pub start : ℕ
 
 -- its digits are good, none stands below 00100, and they and the start lie in its core, which is of a size that exists
@@ -39,7 +39,7 @@ pub record Fits (p : Program) : Type 0 where
   pub sized : IsSize p.modules
   pub each : All IsPiece p.image
   pub above : All (λ r. lowest_declared ≤ r.from) p.image
-  pub below : All (IsBelow (size p.modules)) p.image
+  pub below : All (IsRunBelow (size p.modules)) p.image
   pub start_below : p.start < size p.modules
 
 -- its object deck
@@ -55,24 +55,24 @@ abbrev pub LoadsItself : Program → Type 0
 LoadsItself p = Loads (deck_of p) p.image p.start (steps_of_deck p)
 
 -- some cards and then the data cards
-abbrev pub cards_before : List (List ℕ) → Feed → List Entry
+abbrev pub cards_before : List (List ℕ) → MachineFeed → List Entry
 cards_before deck feed = hopper_of deck [] feed.cards
 
 -- a machine at power on whose hopper has the deck and then the data cards
-abbrev pub set_up_at_power_on : Program → Feed → SetUp
+abbrev pub set_up_at_power_on : Program → MachineFeed → SetUp
 set_up_at_power_on p feed written = state_over_feed p.modules written (cards_before (deck_of p) feed) feed
 
 -- the deck was loaded: the Load key was pressed at power on, and the deck's steps were made
-unfoldable pub set_up_after_load : Program → Feed → SetUp
+unfoldable pub set_up_after_load : Program → MachineFeed → SetUp
 set_up_after_load p feed written = after_steps (steps_of_deck p) (load_key (set_up_at_power_on p feed written))
 
 -- the image stands over both standard tables and the transfer card in a core of zeros, the machine runs at the start, the data cards are
 -- in the hopper, and all else is as at power on
-unfoldable pub set_up_at_start : Program → Feed → SetUp
+unfoldable pub set_up_at_start : Program → MachineFeed → SetUp
 set_up_at_start p feed written = record {
   core = overlay (replicate (size p.modules) zero_cell) p.image p.start;
   regs = record { ir = p.start; ir2 = 0 };
-  panel = set LAST_CARD (is_empty (entries_of_unit units.Data 0 feed.cards)) dark;
+  panel = set LAST_CARD (has_none_left (entries_of_unit units.Data 0 feed.cards)) dark;
   arms = replicate DRIVES 0;
   hopper = entries_of_unit units.Data 0 feed.cards;
   keys = entries_of_unit units.Keys 0 feed.keys;
@@ -82,7 +82,7 @@ set_up_at_start p feed written = record {
 }
 
 -- a machine of a program that was powered on in a state, and whose turns begin at a place, once the cards of its deck were taken
-abbrev pub loaded_by : Program → Feed → State → RunPlace → LoadedMachine
+abbrev pub loaded_by : Program → MachineFeed → State → RunPlace → LoadedMachine
 loaded_by p feed powered first = record {
   powered = powered;
   steps = steps_of_deck p;
@@ -109,7 +109,7 @@ KeepsProgramPromise m settings cards lines old new answer =
 -- THE HEADLINE: by the deck's steps or from the overlaid core on, the job of a run's turns is the same, for every program, script, limit
 -- and feed, whatever was done before, and whatever was punched and typed by then
 abbrev pub HeadlineLaw : Type 0
-HeadlineLaw = (own : Option (List (List ℕ))) (before : List Event) (limit : ℕ) (lines : List ScriptLine) (p : Program) (feed : Feed)
+HeadlineLaw = (own : Option (List (List ℕ))) (before : List Event) (limit : ℕ) (lines : List ScriptLine) (p : Program) (feed : MachineFeed)
     (written : UnitTexts) → Fits p
     → let powered = set_up_at_power_on p feed written in
     turns_job own before limit (loaded_by p feed powered (first_in (set_up_after_load p feed written) lines))

@@ -5,7 +5,7 @@ use Rattle.outside_io.specs.declared.host.Unit.TheVariants as units
 use Rattle.outside_io.specs.World.{World, Seen, Rose}
 use Rattle.card_code.specs.Entries.{Entry}
 use Rattle.card_unit.specs.declared.hopper.Hopper.{Hopper}
-use Rattle.card_unit.specs.Hopper.{hopper_left, own_cards, HasRead}
+use Rattle.card_unit.specs.Hopper.{hopper_left, own_cards, HasReadCards}
 use Rattle.typewriter.specs.declared.keyboard.Keyboard.{Keyboard}
 use Rattle.typewriter.specs.Keys.{keys_left}
 use Rattle.typewriter.specs.Keys as typewriter
@@ -29,7 +29,7 @@ use Rattle.ibm1620_cli.specs.Ways.{Way, StandsOn}
 
 -- where a machine ends: its state, the cards that were put into its reader's pile, None where its pile is the lines of Deck, and, as they were
 -- at power on, the entries of that pile, all cards of its reader and the lines of its keyboard
-pub record Rest : Type 0 where
+pub record MachineEnd : Type 0 where
   pub state : State
   pub own : Option (List (List ℕ))
   pub pile : List Entry
@@ -46,13 +46,13 @@ pub record ProgramTexts : Type 0 where
 pub record Job : Type 0 where
   pub status : Status
   pub events : List Event
-  pub rest : Option Rest
+  pub rest : Option MachineEnd
   pub way : Option Way
   pub refusal : Option RefusedText
   pub program : Option ProgramTexts
 
 -- a line is reported behind some events, and the job ends so, its machine there; of no source is it said that the machine runs its program
-abbrev pub job_leaving : Option Rest → Option Way → Status → List ℕ → List Event → Job
+abbrev pub job_leaving : Option MachineEnd → Option Way → Status → List ℕ → List Event → Job
 job_leaving rest way status line before = record {
   status = status;
   events = before ++ text_events units.Report line;
@@ -123,22 +123,22 @@ is_usage answer = false
 -- each; a keyboard holds at most 4,096 bytes of Keys. That is the room of `Lines` in card_code. No card was asked for before its turn, but for
 -- the look at whether one is left, and no line of Keys; and what is shown is the console of a state, with what reader and keyboard have read
 -- since power on.
-pub record HasLeft (r : Rest) (cards keys : List Entry) (state : State) (shown : Option Console) (w : World) : Type 0 where
+pub record HasLeft (r : MachineEnd) (cards keys : List Entry) (state : State) (shown : Option Console) (w : World) : Type 0 where
   pub hopper : Hopper
   pub keyboard : Keyboard
   pub own_is : own_cards hopper ≡ r.own
   pub cards_are : hopper_left hopper w ≡ Some cards
   pub lines_are : keys_left keyboard w ≡ Some keys
-  pub read : HasRead (record { pile = r.pile; all = r.cards }) hopper w
-  pub typed : typewriter.HasRead r.keys keyboard w
+  pub read : HasReadCards (record { pile = r.pile; all = r.cards }) hopper w
+  pub typed : typewriter.HasReadLines r.keys keyboard w
   pub shows : shown ≡ Some (console_of state hopper keyboard)
 
 -- what is left of the inputs of a machine that ends so, and what its console shows there
-abbrev pub LeavesInputs : Rest → Option Console → World → Type 0
+abbrev pub LeavesInputs : MachineEnd → Option Console → World → Type 0
 LeavesInputs r shown w = HasLeft r r.state.hopper r.state.keys r.state shown w
 
 -- so it is where a job has a machine; and without one no console is shown
-abbrev pub LeavesMachine : Option Rest → Option Console → World → Type 0
+abbrev pub LeavesMachine : Option MachineEnd → Option Console → World → Type 0
 LeavesMachine None shown w = shown ≡ None
 LeavesMachine (Some r) shown w = LeavesInputs r shown w
 
@@ -150,14 +150,14 @@ ShowsRefusal (Some r) None = ⊥
 ShowsRefusal (Some r) (Some line) = ShowsRefused r line
 
 -- the statement of a program that stands at an address, where one does
-abbrev pub text_at : ProgramTexts → ℕ → Option StandingText
-text_at p address = option_map (standing_text p.source) (statement_at p.placed address)
+abbrev pub statement_standing_at : ProgramTexts → ℕ → Option StandingText
+statement_standing_at p address = option_map (standing_text p.source) (statement_at p.placed address)
 
 -- the statement that stands at IR of a console; none without a program, and none without a console
 abbrev pub text_at_ir : Option ProgramTexts → Option Console → Option StandingText
 text_at_ir None shown = None
 text_at_ir (Some p) None = None
-text_at_ir (Some p) (Some console) = text_at p console.regs.ir
+text_at_ir (Some p) (Some console) = statement_standing_at p console.regs.ir
 
 -- a statement is shown where there is one, and else none
 abbrev pub ShowsText : Option StandingText → Option StandingLine → Type 0
@@ -170,7 +170,7 @@ ShowsStatement program shown line = ShowsText (text_at_ir program shown) line
 
 -- a job came to its end: this is its status, all of it was done, its machine, where it has one, leaves its inputs so and shows its console, the
 -- statement is shown that a source was refused for, and, where the machine runs a program of a source, the statement that stands at IR
-pub record Ends (j : Job) (old new : Seen) (answer : Answer) : Type 0 where
+pub record EndsWithAnswer (j : Job) (old new : Seen) (answer : Answer) : Type 0 where
   pub status : answer.status ≡ j.status
   pub did : DidAll j.events old.world new.world
   pub rest : LeavesMachine j.rest answer.console new.world
@@ -181,7 +181,7 @@ pub record Ends (j : Job) (old new : Seen) (answer : Answer) : Type 0 where
 pub record OwnEnd (c : Promise) (old new : Seen) (answer : Answer) : Type 0 where
   pub own : is_own answer.status ≡ true
   pub usage_is : is_usage answer.status ≡ c.usage
-  pub all : IfSome c.job (λ j. Ends j old new answer)
+  pub all : IfSome c.job (λ j. EndsWithAnswer j old new answer)
 
 -- the answer of a status alone, with no console and no statement
 abbrev pub answer_of : Status → Answer
@@ -200,15 +200,15 @@ abbrev pub Unasked : World → World → Type 0
 Unasked old new = (u : unit.Unit) → is_read u ≡ true → new.asked u ≡ old.asked u
 
 -- a state in which a machine stands when the host fails: on its way, or at its end
-abbrev pub StandsSomewhere : Rest → Option Way → State → Type 0
+abbrev pub StandsSomewhere : MachineEnd → Option Way → State → Type 0
 StandsSomewhere r way s = IsSomeAnd way (λ on. StandsOn on s) ⊎ (s ≡ r.state)
 
 -- Cards and lines when a first part of a job was done, behind how their units were asked before, and the console. None is in that part, no unit was
 -- asked, and no console is shown. Or the job has a machine, and it is as its reader and its keyboard have it: all cards and lines are left but
 -- those that this part takes, none was asked for before its turn, and the console is that of the place where the machine stands.
-pub data AsksForInputs (rest : Option Rest) (way : Option Way) (done : List Event) (shown : Option Console) (old new : World) : Type 0 where
+pub data AsksForInputs (rest : Option MachineEnd) (way : Option Way) (done : List Event) (shown : Option Console) (old new : World) : Type 0 where
   unasked : TakesNone done → Unasked old new → shown ≡ None → AsksForInputs rest way done shown old new
-  asked : (r : Rest) → rest ≡ Some r → (s : State) → StandsSomewhere r way s
+  asked : (r : MachineEnd) → rest ≡ Some r → (s : State) → StandsSomewhere r way s
       → HasLeft r (drop (cards_in done) r.cards) (drop (lines_in done) r.keys) s shown new
       → AsksForInputs rest way done shown old new
 
@@ -260,24 +260,24 @@ abbrev pub nothing_done : World → Option (List Event)
 nothing_done w = Some []
 
 -- WHAT IS READ. A job stands on what Script, Commands and Source hold; a host may tell that or not.
-pub record Texts : Type 0 where
+pub record InputTexts : Type 0 where
   pub script : List ℕ
   pub commands : List ℕ
   pub source : List ℕ
 
 -- these units hold these texts; of all others the host tells what it told
-abbrev pub with_texts : Texts → (unit.Unit → Option (List ℕ)) → unit.Unit → Option (List ℕ)
+abbrev pub with_texts : InputTexts → (unit.Unit → Option (List ℕ)) → unit.Unit → Option (List ℕ)
 with_texts t left units.Script = Some t.script
 with_texts t left units.Commands = Some t.commands
 with_texts t left units.Source = Some t.source
 with_texts t left u = left u
 
 -- the same world, in which these texts are told
-abbrev pub world_with_texts : Texts → World → World
+abbrev pub world_with_texts : InputTexts → World → World
 world_with_texts t w = record w { left = with_texts t w.left }
 
 -- what the host tells of them is so
-pub record AreTold (t : Texts) (w : World) : Type 0 where
+pub record AreTold (t : InputTexts) (w : World) : Type 0 where
   pub script : IfSome (w.left units.Script) (λ text. text ≡ t.script)
   pub commands : IfSome (w.left units.Commands) (λ text. text ≡ t.commands)
   pub source : IfSome (w.left units.Source) (λ text. text ≡ t.source)
@@ -285,7 +285,7 @@ pub record AreTold (t : Texts) (w : World) : Type 0 where
 -- A PROMISE IS KEPT that is given by a world: the one that is given by it where it tells some texts of Script, Commands and Source. These are
 -- what the host tells of them, where it does: then it is the promise that is given by the world itself.
 pub record KeepsFrom (promise : World → Promise) (w : World) (old new : Seen) (answer : Answer) : Type 0 where
-  pub texts : Texts
+  pub texts : InputTexts
   pub told : AreTold texts w
   pub keeps : KeepsPromise (promise (world_with_texts texts w)) old new answer
 

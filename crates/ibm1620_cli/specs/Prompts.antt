@@ -7,7 +7,7 @@ use Rattle.outside_io.specs.Events.{lines_in}
 use Rattle.card_code.specs.Entries.{entries_of_unit}
 use Rattle.card_code.specs.Reader.{has_end}
 use Rattle.cpu_step.specs.declared.console.Console.{Console}
-use Rattle.ibm1620_cli.specs.Promise.{Rest, Job, StopsAt}
+use Rattle.ibm1620_cli.specs.Promise.{MachineEnd, Job, StopsAt}
 
 -- a line as it is typed: no LF stands in it, it has no CR at its end, and it has 80 bytes at most
 pub record IsTypedLine (line : List ℕ) : Type 0 where
@@ -28,7 +28,7 @@ never_asked = record { last = 0; ends = 0 }
 -- not asked before the job, has what is behind these lines; and as it was asked last it gave as many bytes as the last line has, with its
 -- LF.
 pub record HasReadLine (j : Job) (old new : World) : Type 0 where
-  pub rest : Rest
+  pub rest : MachineEnd
   pub has_machine : j.rest ≡ Some rest
   pub earlier : List (List ℕ)
   pub last : List ℕ

@@ -1,30 +1,31 @@
 -- The codes and the report lines of the statuses.
 use Rattle.std.specs.Prelude.{ℕ, List, [], ◌++◌, codes, decimal}
-use Rattle.report_lines.specs.Numbers.{with_line_feed, at_count}
+use Rattle.outside_io.specs.Lines.{with_line_feed}
+use Rattle.report_lines.specs.Numbers.{at_count}
 use Rattle.report_lines.specs.Units.{unit_name}
 use Rattle.report_lines.specs.Endings.{halt_line, check_line, limit_line, need_cards_line, need_keys_line, jam_line}
 use Rattle.sps_listing.specs.Texts.{short_refusal_line}
 use Rattle.ibm1620_cli.specs.declared.status.Status.{Status}
 use Rattle.ibm1620_cli.specs.declared.status.Status.TheVariants.{Halted, Assembled, Generated, Placed, Refused, Usage, CheckStop, Limit, NeedCards, NeedKeys, HostFault, OutOfMemory, Jam, BadScript, TooLong, SessionEnded, BadCommand}
 
-abbrev pub code_of : Status → ℕ
-code_of (Halted at steps) = 0
-code_of (Assembled statements digits cards) = 0
-code_of (Generated statements) = 0
-code_of (Placed sectors cards) = 0
-code_of (Refused statement rule) = 1
-code_of Usage = 2
-code_of (CheckStop kind at steps) = 3
-code_of (Limit steps) = 4
-code_of (NeedCards at steps) = 5
-code_of (NeedKeys at steps) = 6
-code_of HostFault = 7
-code_of OutOfMemory = 8
-code_of (Jam u line) = 9
-code_of (BadScript line) = 10
-code_of (TooLong u) = 11
-code_of SessionEnded = 12
-code_of (BadCommand line) = 13
+abbrev pub exit_code_of : Status → ℕ
+exit_code_of (Halted at steps) = 0
+exit_code_of (Assembled statements digits cards) = 0
+exit_code_of (Generated statements) = 0
+exit_code_of (Placed sectors cards) = 0
+exit_code_of (Refused statement rule) = 1
+exit_code_of Usage = 2
+exit_code_of (CheckStop kind at steps) = 3
+exit_code_of (Limit steps) = 4
+exit_code_of (NeedCards at steps) = 5
+exit_code_of (NeedKeys at steps) = 6
+exit_code_of HostFault = 7
+exit_code_of OutOfMemory = 8
+exit_code_of (Jam u line) = 9
+exit_code_of (BadScript line) = 10
+exit_code_of (TooLong u) = 11
+exit_code_of SessionEnded = 12
+exit_code_of (BadCommand line) = 13
 
 -- the line of a source that was assembled: its statements, the addresses that it declares, and the cards of its deck
 abbrev pub assembled_line : ℕ → ℕ → ℕ → List ℕ

@@ -8,7 +8,7 @@ use Rattle.digit_core.specs.{zero_cell}
 use Rattle.digit_core.specs.Size.{IsSize, size}
 use Rattle.indicators.specs.Panel.{dark, set}
 use Rattle.indicators.specs.declared.codes.TheConstants.{LAST_CARD}
-use Rattle.card_code.specs.Entries.{Text, entries_of_unit, is_empty}
+use Rattle.card_code.specs.Entries.{Text, entries_of_unit, has_none_left}
 use Rattle.disk_1311.specs.declared.TheConstants.{DRIVES}
 use Rattle.cpu_step.specs.declared.machine.Mode.TheVariants.{Running}
 use Rattle.cpu_step.specs.State.{UnitTexts, State}
@@ -30,13 +30,13 @@ use Rattle.disk_loader.specs.DiskLoads.{HasSectors, last_cylinder}
 use Rattle.disk_loader.specs.Writes.{sectors_after}
 use Rattle.disk_loader.specs.BootstrapDeck.{boot_steps}
 use Rattle.command_line.specs.declared.words.Command.TheVariants.{Load}
-use Rattle.command_line.specs.Words.{Said, plain}
+use Rattle.command_line.specs.Words.{WordsSaid, plain}
 use Rattle.ibm1620_cli.specs.declared.answer.Answer.{Answer}
 use Rattle.ibm1620_cli.specs.declared.status.Status.TheVariants.{OutOfMemory}
 use Rattle.ibm1620_cli.specs.Binding.{all_bound}
 use Rattle.ibm1620_cli.specs.Report.{report_line}
-use Rattle.ibm1620_cli.specs.Promise.{Job, job_behind, job_leaving, Ends}
-use Rattle.ibm1620_cli.specs.Turns.{Feed, feed_at, lines_of_feed, SetUp, first_in, first_over, status_of}
+use Rattle.ibm1620_cli.specs.Promise.{Job, job_behind, job_leaving, EndsWithAnswer}
+use Rattle.ibm1620_cli.specs.Turns.{MachineFeed, feed_at, lines_of_feed, SetUp, first_in, first_over, status_of}
 use Rattle.ibm1620_cli.specs.Program.{Program, deck_of, steps_of_deck, cards_before, set_up_at_start}
 use Rattle.deck_punch.specs.DeckText.{deck_text}
 use Rattle.ibm1620_cli.specs.Source.{SourceTexts, assembled_source, program_of, made_of}
@@ -78,7 +78,7 @@ DoesAfter k deck s t = (limit : ℕ) (lines : List ScriptLine)
     → load_events s ++ run_events (limit + k) (first_in (load_key s) (later_lines k lines)) ≡ deck_taken deck ++ run_events limit (first_in t lines)
 
 -- a load of the object deck that is made of a source
-abbrev pub load_of_made : SourceTexts → Feed → Loading
+abbrev pub load_of_made : SourceTexts → MachineFeed → Loading
 load_of_made made feed = record { deck = made.object; feed = feed }
 
 -- What the object deck of a program does that is loaded by itself.
@@ -87,7 +87,7 @@ load_of_made made feed = record { deck = made.object; feed = feed }
 --     where the program is entered, that is where a run of it begins, with those steps counted;
 --   ends: with that many steps more, in the limit and in each AT line, the load ends where the run ends, with that many steps more;
 --   does: and it takes its cards, and does outside what the run does from there, thing by thing, and nothing else.
-pub record MakesRoundTrip (p : Program) (made : SourceTexts) (feed : Feed) : Type 0 where
+pub record MakesRoundTrip (p : Program) (made : SourceTexts) (feed : MachineFeed) : Type 0 where
   pub cards : entries_of_unit units.Deck 0 made.object ≡ map Text (deck_of p)
   pub stands : (written : UnitTexts)
       → StandsAfter (steps_of_deck p) (state_after_load_key p.modules (load_of_made made feed) written) (set_up_at_start p feed written)
@@ -99,7 +99,7 @@ pub record MakesRoundTrip (p : Program) (made : SourceTexts) (feed : Feed) : Typ
 
 -- THE ROUND TRIP of every source that breaks no rule, for each size of core, in both forms of its deck, with any data cards, keyboard and pack
 abbrev pub RoundTripLaw : Type 0
-RoundTripLaw = (m : ℕ) (form : DeckForm) (source : List ℕ) (feed : Feed) → IsSize m → refusal_of (size m) source ≡ None
+RoundTripLaw = (m : ℕ) (form : DeckForm) (source : List ℕ) (feed : MachineFeed) → IsSize m → refusal_of (size m) source ≡ None
     → MakesRoundTrip (program_of m form source) (made_of m form source) feed
 
 -- The round trip by disk.
@@ -109,7 +109,7 @@ abbrev pub steps_of_boot : ℕ → List ℕ → ℕ
 steps_of_boot m source = boot_steps (length (boot_cards m source))
 
 -- a load of the bootstrap deck that is made of a source
-abbrev pub load_of_boot : ℕ → List ℕ → Feed → Loading
+abbrev pub load_of_boot : ℕ → List ℕ → MachineFeed → Loading
 load_of_boot m source feed = record { deck = deck_text (boot_cards m source); feed = feed }
 
 -- the arms at power on, where that of drive 1 moved to the cylinder of the last hundred of a source's image
@@ -118,14 +118,14 @@ arms_from_disk m source = slice_set (replicate DRIVES 0) 0 (last_cylinder 0 (str
 
 -- the needed hundreds of a source's image stand over the transfer card in a core of zeros, the machine runs at the start, the data cards
 -- are in the hopper, the arm of drive 1 moved, and all else is as at power on
-unfoldable pub set_up_from_disk : ℕ → List ℕ → Feed → SetUp
+unfoldable pub set_up_from_disk : ℕ → List ℕ → MachineFeed → SetUp
 set_up_from_disk m source feed written =
     let image = (assembled_source m source).pieces in
     let start = (assembled_source m source).start in
     record {
       core = disk_overlay (replicate (size m) zero_cell) image start;
       regs = record { ir = start; ir2 = 0 };
-      panel = set LAST_CARD (is_empty (entries_of_unit units.Data 0 feed.cards)) dark;
+      panel = set LAST_CARD (has_none_left (entries_of_unit units.Data 0 feed.cards)) dark;
       arms = arms_from_disk m source;
       hopper = entries_of_unit units.Data 0 feed.cards;
       keys = entries_of_unit units.Keys 0 feed.keys;
@@ -149,16 +149,16 @@ pub record MakesDiskRoundTrip (m : ℕ) (source : List ℕ) : Type 0 where
   pub placed : (before : List Event) (line : List ℕ) (old new : World)
       → DidAll (before ++ (placing_events (disk_placing m source) ++ text_events units.Report line)) old new
       → IfSome new.sectors (HasSectors (assembled_source m source).pieces)
-  pub stands : (feed : Feed) → HasSectors (assembled_source m source).pieces feed.sectors → (written : UnitTexts)
+  pub stands : (feed : MachineFeed) → HasSectors (assembled_source m source).pieces feed.sectors → (written : UnitTexts)
       → StandsAfter (steps_of_boot m source)
       (state_after_load_key m (load_of_boot m source feed) written) (set_up_from_disk m source feed written)
-  pub ends : (feed : Feed) → HasSectors (assembled_source m source).pieces feed.sectors → (written : UnitTexts)
+  pub ends : (feed : MachineFeed) → HasSectors (assembled_source m source).pieces feed.sectors → (written : UnitTexts)
       → EndsAfter (steps_of_boot m source)
       (state_after_load_key m (load_of_boot m source feed) written) (set_up_from_disk m source feed written)
-  pub does : (feed : Feed) → HasSectors (assembled_source m source).pieces feed.sectors → (written : UnitTexts)
+  pub does : (feed : MachineFeed) → HasSectors (assembled_source m source).pieces feed.sectors → (written : UnitTexts)
       → DoesAfter (steps_of_boot m source) (boot_cards m source)
       (powered_to_load m (load_of_boot m source feed) written) (set_up_from_disk m source feed written)
-  pub enters : (form : DeckForm) (feed : Feed) (written : UnitTexts)
+  pub enters : (form : DeckForm) (feed : MachineFeed) (written : UnitTexts)
       → set_up_from_disk m source feed written
       ≡ record (set_up_at_start (program_of m form source) feed written) { arms = arms_from_disk m source }
   pub same : m ≡ 1 → (form : DeckForm) → set_up_from_disk m source ≡ set_up_at_start (program_of m form source)
@@ -170,7 +170,7 @@ DiskRoundTripLaw = (m : ℕ) (source : List ℕ) → IsSize m → refusal_of (si
 -- By words: a load whose script is that of a run, with so many steps more in the limit and in each AT line. The words say `load`, and the
 -- host tells the bytes of the script and what the machine is fed with.
 pub record LaterLoad (words : List (List ℕ)) (w : World) : Type 0 where
-  pub said : Said
+  pub said : WordsSaid
   pub is : plain words ≡ Some said
   pub loads : said.command ≡ Load
   pub steps : ℕ
@@ -181,7 +181,7 @@ pub record LaterLoad (words : List (List ℕ)) (w : World) : Type 0 where
   pub script_fits : length script ≤ longest_script
   pub lines : List ScriptLine
   pub lines_are : script_of (size (modules_of said.core)) script ≡ Ok (later_lines steps lines)
-  pub feed : Feed
+  pub feed : MachineFeed
   pub feed_is : feed_at (all_bound said.names w) ≡ Some feed
 
 -- What such a load of a deck comes to that does what a machine does which is set up so: it binds its files, takes the cards of the deck, does
@@ -209,7 +209,7 @@ pub record SoundRoundTrip (words : List (List ℕ)) (w : World) : Type 0 where
 abbrev pub RoundTrip : List (List ℕ) → Seen → Seen → Answer → Type 0
 RoundTrip words old new answer = (r : SoundRoundTrip words old.world) → (Rose old.faults new.faults → ⊥) → answer.status ≢ OutOfMemory
     → let p = program_of (modules_of r.load.said.core) r.form r.source in
-    Ends (later_job r.load (deck_of p) (set_up_at_start p r.load.feed)) old new answer
+    EndsWithAnswer (later_job r.load (deck_of p) (set_up_at_start p r.load.feed)) old new answer
 
 -- A sound load of the bootstrap deck of such a source: the bytes of Deck are those that are made of it as its bootstrap deck, the pack has
 -- its sectors, as `disk` writes them, and the steps are the deck's.
@@ -225,4 +225,4 @@ pub record SoundDiskRoundTrip (words : List (List ℕ)) (w : World) : Type 0 whe
 abbrev pub DiskRoundTrip : List (List ℕ) → Seen → Seen → Answer → Type 0
 DiskRoundTrip words old new answer = (r : SoundDiskRoundTrip words old.world) → (Rose old.faults new.faults → ⊥) → answer.status ≢ OutOfMemory
     → let m = modules_of r.load.said.core in
-    Ends (later_job r.load (boot_cards m r.source) (set_up_from_disk m r.source r.load.feed)) old new answer
+    EndsWithAnswer (later_job r.load (boot_cards m r.source) (set_up_from_disk m r.source r.load.feed)) old new answer

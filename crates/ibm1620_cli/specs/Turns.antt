@@ -19,27 +19,27 @@ use Rattle.ibm1620_cli.specs.Ways.{Runs}
 use Rattle.ibm1620_cli.specs.Promise.{Job, job_leaving, texts_alone, Promise}
 
 -- what the machine is fed with besides the cards of a deck: the data cards, the keyboard, and the sectors of the pack
-pub record Feed : Type 0 where
+pub record MachineFeed : Type 0 where
   pub cards : List ℕ
   pub keys : List ℕ
   pub sectors : ℕ → List ℕ
 
 -- where all of it is told
-abbrev pub feed_of : Option (List ℕ) → Option (List ℕ) → Option (ℕ → List ℕ) → Option Feed
+abbrev pub feed_of : Option (List ℕ) → Option (List ℕ) → Option (ℕ → List ℕ) → Option MachineFeed
 feed_of cards keys sectors =
     option_and_then
     (λ c. option_and_then (λ k. option_map (λ s. record { cards = c; keys = k; sectors = s }) sectors) keys)
     cards
 
-abbrev pub feed_at : World → Option Feed
+abbrev pub feed_at : World → Option MachineFeed
 feed_at w = feed_of (w.left units.Data) (w.left units.Keys) w.sectors
 
 -- the lines of its keyboard
-abbrev pub lines_of_feed : Feed → List Entry
+abbrev pub lines_of_feed : MachineFeed → List Entry
 lines_of_feed feed = entries_of_unit units.Keys 0 feed.keys
 
 -- a machine with so many modules of core at power on, whose hopper has these cards, over these texts of what it punched and typed
-abbrev pub state_over_feed : ℕ → UnitTexts → List Entry → Feed → State
+abbrev pub state_over_feed : ℕ → UnitTexts → List Entry → MachineFeed → State
 state_over_feed m written hopper feed =
     state_at_power_on m hopper (lines_of_feed feed) written feed.sectors
 

@@ -4,7 +4,7 @@ use Rattle.cpu_step.specs.State.{State}
 use Rattle.cpu_step.specs.Load.{load_key, load_cut}
 use Rattle.operator_script.specs.Turn.{RunPlace, IsOnTheWay}
 use Rattle.console_debug.specs.Session.{Course, Act, turns_in}
-use Rattle.console_debug.specs.Debugs.{IsWithin}
+use Rattle.console_debug.specs.Debugs.{IsWithinAct}
 
 -- THE WAY OF A MACHINE: it was powered on, its Load key is pressed, so many steps are made without a script, and then the turns are taken from a
 -- first place on, up to a limit; or, behind the Load key, a session does its acts over a course.
@@ -25,7 +25,7 @@ pub data StandsInRun (powered : State) (steps limit : ℕ) (first : RunPlace) (s
 -- a session stands within its Load key, or within an act
 pub data StandsInSession (powered : State) (c : Course) (acts : List Act) (s : State) : Type 0 where
   in_key : (done : ℕ) → s ≡ load_cut done powered → StandsInSession powered c acts s
-  in_act : (done : List Act) (next : Act) (rest : List Act) → done ++ next ∷ rest ≡ acts → (place : RunPlace) → IsWithin c (turns_in done) next place
+  in_act : (done : List Act) (next : Act) (rest : List Act) → done ++ next ∷ rest ≡ acts → (place : RunPlace) → IsWithinAct c (turns_in done) next place
       → s ≡ place.state → StandsInSession powered c acts s
 
 -- where a machine stands on its way

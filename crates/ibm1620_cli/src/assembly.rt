@@ -3,7 +3,7 @@ ghost use Rattle.std.specs.Prelude.{◌≡◌};
 ghost use Rattle.digit_core.specs.Size.{IsSize, size};
 ghost use Rattle.ibm1620_cli.specs.AssembleJob.{AssemblyPromise, WrittenPromise, status_of_assembled};
 ghost use Rattle.ibm1620_cli.specs.Inputs.{reads_nothing, reads_source};
-ghost use Rattle.ibm1620_cli.specs.Parts.{IsSound, Stays};
+ghost use Rattle.ibm1620_cli.specs.Parts.{IsSoundSource, LeavesUnread};
 
 use crate::answer::Answer;
 use crate::report::report;
@@ -22,7 +22,7 @@ pub(crate) fn assemble_source<const M: u32, H: Host>(
 ) -> Answer
     requires size { IsSize M }
     ensures promise { AssemblyPromise M settings (H.seen host.old) (H.seen host.new) result }
-    ensures stays { Stays reads_source (H.seen host.old).world (H.seen host.new).world }
+    ensures stays { LeavesUnread reads_source (H.seen host.old).world (H.seen host.new).world }
 {
     match read_source::<M, H>(alloc, host) {
         Ok(sound) => write_assembled::<M, H>(alloc, host, &sound, settings),
@@ -38,13 +38,13 @@ fn write_assembled<const M: u32, H: Host>(
     settings: Settings,
 ) -> Answer
     requires size { IsSize M }
-    requires is { IsSound M sound.now }
+    requires is { IsSoundSource M sound.now }
     ensures promise { WrittenPromise M settings sound.now.source.items (H.seen host.old) (H.seen host.new) result }
-    ensures stays { Stays reads_nothing (H.seen host.old).world (H.seen host.new).world }
+    ensures stays { LeavesUnread reads_nothing (H.seen host.old).world (H.seen host.new).world }
 {
     match write_source::<M, H>(alloc, host, sound, settings.form) {
         Ok(cards) => {
-            let status = status_of(&sound.assembled, cards.len() as u32);
+            let status = status_of_assembled(&sound.assembled, cards.len() as u32);
             Answer::of(report(host, status))
         }
         Err(status) => Answer::of(status),
@@ -52,7 +52,7 @@ fn write_assembled<const M: u32, H: Host>(
 }
 
 // The status of a source that breaks no rule.
-fn status_of(assembled: &Assembled, cards: u32) -> Status
+fn status_of_assembled(assembled: &Assembled, cards: u32) -> Status
     ensures { result ≡ status_of_assembled assembled.now cards }
 {
     Status::Assembled {

@@ -6,7 +6,7 @@ ghost use Rattle.operator_script.specs.Scripts.{IsLine, lines_left};
 ghost use Rattle.sps_listing.specs.Listing.{placed_texts};
 ghost use Rattle.ibm1620_cli.specs.DebugJob.{DebugsSource, DebugsUnder, DebugsBy, DebugsAssembled};
 ghost use Rattle.ibm1620_cli.specs.Inputs.{debug_reads, reads_feed, reads_program, reads_session};
-ghost use Rattle.ibm1620_cli.specs.Parts.{IsSound, ReadsCommands, AreReady, HoldsSession, Stays};
+ghost use Rattle.ibm1620_cli.specs.Parts.{IsSoundSource, ReadsCommands, AreReady, HoldsSession, LeavesUnread};
 
 use crate::answer::Answer;
 use crate::load::read_script;
@@ -45,7 +45,7 @@ pub(crate) fn debug_source<const M: u32, H: Host>(
 ) -> Answer
     requires size { IsSize M }
     ensures promise { DebugsSource M settings (H.seen host.old) (H.seen host.new) result }
-    ensures stays { Stays debug_reads (H.seen host.old).world (H.seen host.new).world }
+    ensures stays { LeavesUnread debug_reads (H.seen host.old).world (H.seen host.new).world }
 {
     match read_script::<M, H>(alloc, host) {
         Ok(script) => debug_under::<M, H>(alloc, host, script, settings),
@@ -64,7 +64,7 @@ fn debug_under<const M: u32, H: Host>(
     requires lines { All (IsLine (size M)) (lines_left script) }
     ensures promise { DebugsUnder M settings script
         (H.seen host.old) (H.seen host.new) result }
-    ensures stays { Stays reads_session (H.seen host.old).world (H.seen host.new).world }
+    ensures stays { LeavesUnread reads_session (H.seen host.old).world (H.seen host.new).world }
 {
     match read_commands::<M, H>(alloc, host) {
         Ok(commands) => {
@@ -102,7 +102,7 @@ fn debug_by<const M: u32, H: Host>(alloc: Global, host: &mut H, given: Given) ->
     requires ready { AreReady M given.commands }
     ensures promise { DebugsBy M given.settings given.script given.commands
         (H.seen host.old) (H.seen host.new) result }
-    ensures stays { Stays reads_program (H.seen host.old).world (H.seen host.new).world }
+    ensures stays { LeavesUnread reads_program (H.seen host.old).world (H.seen host.new).world }
 {
     match read_source::<M, H>(alloc, host) {
         Ok(sound) => {
@@ -122,12 +122,12 @@ fn debug_assembled<const M: u32, H: Host>(
     given: Given,
 ) -> Answer
     requires size { IsSize M }
-    requires is { IsSound M sound.now }
+    requires is { IsSoundSource M sound.now }
     requires lines { All (IsLine (size M)) (lines_left given.script) }
     requires ready { AreReady M given.commands }
     ensures promise { DebugsAssembled M given.settings given.script given.commands sound.now.source.items
         (H.seen host.old) (H.seen host.new) result }
-    ensures stays { Stays reads_feed (H.seen host.old).world (H.seen host.new).world }
+    ensures stays { LeavesUnread reads_feed (H.seen host.old).world (H.seen host.new).world }
 {
     match write_source::<M, H>(alloc, host, sound, given.settings.form) {
         Ok(cards) => {

@@ -3,7 +3,7 @@
 ghost use Rattle.std.specs.Prelude.{◌≡◌};
 ghost use Rattle.digit_core.specs.Size.{IsSize, size};
 ghost use Rattle.ibm1620_cli.specs.DiskJob.{DiskPromise, PlacingPromise, PlacingLaw, placing_events, placing_with};
-ghost use Rattle.ibm1620_cli.specs.Parts.{IsSound, EventsOccur, Stays};
+ghost use Rattle.ibm1620_cli.specs.Parts.{IsSoundSource, EventsOccur, LeavesUnread};
 ghost use Rattle.ibm1620_cli.specs.RoundTrip.{DiskRoundTripLaw};
 ghost use Rattle.ibm1620_cli.specs.Inputs.{placing_reads, reads_pack};
 
@@ -22,7 +22,7 @@ use std::alloc::Global;
 pub(crate) fn place_source<const M: u32, H: Host>(alloc: Global, host: &mut H) -> Answer
     requires size { IsSize M }
     ensures promise { DiskPromise M (H.seen host.old) (H.seen host.new) result }
-    ensures stays { Stays placing_reads (H.seen host.old).world (H.seen host.new).world }
+    ensures stays { LeavesUnread placing_reads (H.seen host.old).world (H.seen host.new).world }
 {
     match read_source::<M, H>(alloc, host) {
         Ok(sound) => place_assembled::<M, H>(alloc, host, &sound),
@@ -38,9 +38,9 @@ fn place_assembled<const M: u32, H: Host>(
     sound: &SoundSource,
 ) -> Answer
     requires size { IsSize M }
-    requires is { IsSound M sound.now }
+    requires is { IsSoundSource M sound.now }
     ensures promise { PlacingPromise M sound.now.source.items (H.seen host.old) (H.seen host.new) result }
-    ensures stays { Stays reads_pack (H.seen host.old).world (H.seen host.new).world }
+    ensures stays { LeavesUnread reads_pack (H.seen host.old).world (H.seen host.new).world }
 {
     let assembled = &sound.assembled;
     let cards = match bootstrap(alloc, assembled) {
@@ -67,7 +67,7 @@ fn place_assembled<const M: u32, H: Host>(
 fn write_placed<H: Host>(host: &mut H, object: &[u8], assembled: &Assembled) -> Sent
     ensures does { EventsOccur (placing_events (placing_with object.now assembled.now))
         (H.seen host.old) (H.seen host.new) result }
-    ensures stays { Stays reads_pack (H.seen host.old).world (H.seen host.new).world }
+    ensures stays { LeavesUnread reads_pack (H.seen host.old).world (H.seen host.new).world }
 {
     match write_all(host, Unit::Object, object) {
         Sent::Done => {}

@@ -4,7 +4,7 @@ ghost use Rattle.digit_core.specs.Size.{IsSize, size};
 ghost use Rattle.operator_script.specs.Scripts.{IsLine, lines_left};
 ghost use Rattle.ibm1620_cli.specs.LoadJob.{LoadPromise, LoadedPromise};
 ghost use Rattle.ibm1620_cli.specs.Inputs.{load_reads, reads_feed};
-ghost use Rattle.ibm1620_cli.specs.Parts.{ReadsScript, Stays};
+ghost use Rattle.ibm1620_cli.specs.Parts.{ReadsScript, LeavesUnread};
 
 use crate::answer::Answer;
 use crate::execute::execute;
@@ -25,7 +25,7 @@ const LONGEST_SCRIPT: usize = 1_000_000;
 pub(crate) fn load<const M: u32, H: Host>(alloc: Global, host: &mut H, settings: Settings) -> Answer
     requires size { IsSize M }
     ensures promise { LoadPromise M settings (H.seen host.old) (H.seen host.new) result }
-    ensures stays { Stays load_reads (H.seen host.old).world (H.seen host.new).world }
+    ensures stays { LeavesUnread load_reads (H.seen host.old).world (H.seen host.new).world }
 {
     match read_script::<M, H>(alloc, host) {
         Ok(script) => load_deck::<M, H>(alloc, host, script, settings),
@@ -62,7 +62,7 @@ fn load_deck<const M: u32, H: Host>(
     requires size { IsSize M }
     requires lines { All (IsLine (size M)) (lines_left script) }
     ensures promise { LoadedPromise M settings script (H.seen host.old) (H.seen host.new) result }
-    ensures stays { Stays reads_feed (H.seen host.old).world (H.seen host.new).world }
+    ensures stays { LeavesUnread reads_feed (H.seen host.old).world (H.seen host.new).world }
 {
     execute::<M, H>(alloc, host, Hopper::of_units(), 0, script, settings.limit)
 }

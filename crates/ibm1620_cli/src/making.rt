@@ -3,7 +3,7 @@ ghost use Rattle.std.specs.Prelude.{◌≤◌};
 ghost use Rattle.ibm1620_cli.specs.GenerateJob.{MakesSource};
 ghost use Rattle.command_line.specs.Numbers.{AreNumbers};
 ghost use Rattle.ibm1620_cli.specs.Inputs.{reads_nothing};
-ghost use Rattle.ibm1620_cli.specs.Parts.{Stays};
+ghost use Rattle.ibm1620_cli.specs.Parts.{LeavesUnread};
 
 use crate::answer::Answer;
 use crate::report::report;
@@ -17,7 +17,7 @@ use std::alloc::Global;
 pub(crate) fn make_source<H: Host>(alloc: Global, host: &mut H, settings: Settings) -> Answer
     requires fits { AreNumbers settings.statements settings.number }
     ensures promise { MakesSource settings (H.seen host.old) (H.seen host.new) result }
-    ensures stays { Stays reads_nothing (H.seen host.old).world (H.seen host.new).world }
+    ensures stays { LeavesUnread reads_nothing (H.seen host.old).world (H.seen host.new).world }
 {
     let statements = settings.statements;
     let source = match generate(alloc, statements, settings.number) {

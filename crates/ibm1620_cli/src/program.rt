@@ -7,7 +7,7 @@ ghost use Rattle.loader_cards.specs.ObjectDeck.{fewest_in};
 ghost use Rattle.ibm1620_cli.specs.Program.{HeadlineLaw};
 ghost use Rattle.ibm1620_cli.specs.Prompts.{PromptLaw};
 ghost use Rattle.ibm1620_cli.specs.RoundTrip.{RoundTripLaw};
-ghost use Rattle.ibm1620_cli.specs.Parts.{ProgramPromise, Stays};
+ghost use Rattle.ibm1620_cli.specs.Parts.{ProgramPromise, LeavesUnread};
 ghost use Rattle.ibm1620_cli.specs.Inputs.{reads_feed};
 
 use crate::answer::Answer;
@@ -35,7 +35,7 @@ pub(crate) fn run_program<const M: u32, H: Host>(
     requires lines { All (IsLine (size M)) (lines_left script) }
     ensures promise { ProgramPromise M settings cards script
         (H.seen host.old) (H.seen host.new) result }
-    ensures stays { Stays reads_feed (H.seen host.old).world (H.seen host.new).world }
+    ensures stays { LeavesUnread reads_feed (H.seen host.old).world (H.seen host.new).world }
     ensures later { (H.seen host.old).faults ≤ (H.seen host.new).faults }
     ensures unrefused { result.refusal ≡ None }
     ensures unstated { result.statement ≡ None }

@@ -4,7 +4,7 @@ ghost use Rattle.digit_core.specs.Size.{IsSize, size};
 ghost use Rattle.operator_script.specs.Scripts.{IsLine, lines_left};
 ghost use Rattle.ibm1620_cli.specs.RunJob.{RunPromise, ScriptPromise, TurnedPromise};
 ghost use Rattle.ibm1620_cli.specs.Inputs.{reads_feed, reads_program, run_reads};
-ghost use Rattle.ibm1620_cli.specs.Parts.{IsSound, Stays};
+ghost use Rattle.ibm1620_cli.specs.Parts.{IsSoundSource, LeavesUnread};
 
 use crate::answer::Answer;
 use crate::load::read_script;
@@ -25,7 +25,7 @@ pub(crate) fn run_source<const M: u32, H: Host>(
 ) -> Answer
     requires size { IsSize M }
     ensures promise { RunPromise M settings (H.seen host.old) (H.seen host.new) result }
-    ensures stays { Stays run_reads (H.seen host.old).world (H.seen host.new).world }
+    ensures stays { LeavesUnread run_reads (H.seen host.old).world (H.seen host.new).world }
 {
     match read_script::<M, H>(alloc, host) {
         Ok(script) => run_under::<M, H>(alloc, host, script, settings),
@@ -44,7 +44,7 @@ fn run_under<const M: u32, H: Host>(
     requires lines { All (IsLine (size M)) (lines_left script) }
     ensures promise { ScriptPromise M settings script
         (H.seen host.old) (H.seen host.new) result }
-    ensures stays { Stays reads_program (H.seen host.old).world (H.seen host.new).world }
+    ensures stays { LeavesUnread reads_program (H.seen host.old).world (H.seen host.new).world }
 {
     match read_source::<M, H>(alloc, host) {
         Ok(sound) => {
@@ -64,11 +64,11 @@ fn run_assembled<const M: u32, H: Host>(
     settings: Settings,
 ) -> Answer
     requires size { IsSize M }
-    requires is { IsSound M sound.now }
+    requires is { IsSoundSource M sound.now }
     requires lines { All (IsLine (size M)) (lines_left script) }
     ensures promise { TurnedPromise M settings script sound.now.source.items
         (H.seen host.old) (H.seen host.new) result }
-    ensures stays { Stays reads_feed (H.seen host.old).world (H.seen host.new).world }
+    ensures stays { LeavesUnread reads_feed (H.seen host.old).world (H.seen host.new).world }
 {
     match write_source::<M, H>(alloc, host, sound, settings.form) {
         Ok(cards) => run_program::<M, H>(alloc, host, cards, script, settings),

@@ -2,7 +2,7 @@
 ghost use Rattle.digit_core.specs.Size.{IsSize};
 ghost use Rattle.ibm1620_cli.specs.Source.{made_events};
 ghost use Rattle.ibm1620_cli.specs.Inputs.{reads_nothing};
-ghost use Rattle.ibm1620_cli.specs.Parts.{IsSound, ReadsSource, AssemblesOrRefuses, RefusesOrLacks, made_with, EventsOccur, WritesSource, Stays};
+ghost use Rattle.ibm1620_cli.specs.Parts.{IsSoundSource, ReadsSource, AssemblesOrRefuses, RefusesOrLacks, made_with, EventsOccur, WritesSource, LeavesUnread};
 
 use crate::answer::Answer;
 use crate::reading::read_text;
@@ -97,9 +97,9 @@ pub(crate) fn write_source<const M: u32, H: Host>(
     sound: &SoundSource,
     form: DeckForm,
 ) -> Result<Vec<Card>, Status>
-    requires { IsSound M sound.now }
+    requires { IsSoundSource M sound.now }
     ensures does { WritesSource M form sound.now.source.items (H.seen host.old) (H.seen host.new) result }
-    ensures stays { Stays reads_nothing (H.seen host.old).world (H.seen host.new).world }
+    ensures stays { LeavesUnread reads_nothing (H.seen host.old).world (H.seen host.new).world }
 {
     let cards = match object_deck(alloc, &sound.assembled, form) {
         Ok(cards) => cards,
@@ -119,7 +119,7 @@ pub(crate) fn write_source<const M: u32, H: Host>(
 fn write_made<H: Host>(host: &mut H, object: &[u8], source: &[u8], assembled: &Assembled) -> Sent
     ensures does { EventsOccur (made_events (made_with object.now source.now assembled.now))
         (H.seen host.old) (H.seen host.new) result }
-    ensures stays { Stays reads_nothing (H.seen host.old).world (H.seen host.new).world }
+    ensures stays { LeavesUnread reads_nothing (H.seen host.old).world (H.seen host.new).world }
 {
     match write_all(host, Unit::Object, object) {
         Sent::Done => {}

@@ -1,7 +1,7 @@
 // How a call of the program ends.
 // Source: this project's own.
 ghost use Rattle.std.specs.Prelude.{◌≡◌};
-ghost use Rattle.ibm1620_cli.specs.Report.{assembled_line, code_of, placed_line, report_line};
+ghost use Rattle.ibm1620_cli.specs.Report.{assembled_line, exit_code_of, placed_line, report_line};
 
 use addr_indirect::Stop;
 use arrayvec::ArrayString;
@@ -114,7 +114,7 @@ pub enum Status {
 impl Status {
     /// The code that the program ends with, 0 to 13.
     pub fn code(&self) -> u8
-        ensures { result ≡ code_of self.now }
+        ensures { result ≡ exit_code_of self.now }
     {
         match self {
             Status::Halted { .. } => 0,

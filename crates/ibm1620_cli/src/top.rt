@@ -4,8 +4,8 @@ ghost use Rattle.std.specs.Prelude.{◌≡◌};
 ghost use Rattle.digit_core.specs.Size.{IsSize};
 ghost use Rattle.outside_io.specs.World.{IsFresh, IsFree};
 ghost use Rattle.command_line.specs.Given.{meaning_of};
-ghost use Rattle.ibm1620_cli.specs.Parts.{Stays};
-ghost use Rattle.ibm1620_cli.specs.Job.{word_bytes, reads, Tells, BindsSaid, KeepsUnread, DoesSaid, BindsFiles, KeepsFiles, DoesJob, DoesJobIn, IsStatusOf};
+ghost use Rattle.ibm1620_cli.specs.Parts.{LeavesUnread};
+ghost use Rattle.ibm1620_cli.specs.Job.{word_bytes, reads, TellsAnswer, BindsSaid, KeepsUnread, DoesSaid, BindsFiles, KeepsFiles, DoesJob, DoesJobIn, IsStatusOf};
 ghost use Rattle.ibm1620_cli.specs.Headline.{Headline};
 ghost use Rattle.ibm1620_cli.specs.RoundTrip.{DiskRoundTrip, RoundTrip};
 ghost use Rattle.ibm1620_cli.specs.Endings.{TrialEnds, SessionEnds};
@@ -43,7 +43,7 @@ use std::alloc::{AllocError, Global};
 /// docs/promises.md says each of these in full under 'The whole program', and docs/formats.md which words are plain.
 pub fn ibm1620_answer<H: Host>(alloc: Global, words: &[String], host: &mut H) -> Answer
     requires { IsFresh (H.seen host.old).world }
-    ensures told { Tells (word_bytes words.now) (H.seen host.old) (H.seen host.new) result }
+    ensures told { TellsAnswer (word_bytes words.now) (H.seen host.old) (H.seen host.new) result }
     ensures bound { BindsSaid (word_bytes words.now) (H.seen host.old) (H.seen host.new) result.status }
     ensures unread { KeepsUnread (word_bytes words.now) (H.seen host.old) (H.seen host.new) }
     ensures headline { Headline (word_bytes words.now) (H.seen host.old) (H.seen host.new) result }
@@ -75,7 +75,7 @@ pub fn ibm1620_read<H: Host>(alloc: Global, read: &Read<'_>, host: &mut H) -> An
 /// No unit of the host is in use, and no output has been given a byte.
 pub fn ibm1620<H: Host>(alloc: Global, words: &[String], host: &mut H) -> Status
     requires { IsFresh (H.seen host.old).world }
-    ensures told { IsStatusOf result (Tells (word_bytes words.now) (H.seen host.old) (H.seen host.new)) }
+    ensures told { IsStatusOf result (TellsAnswer (word_bytes words.now) (H.seen host.old) (H.seen host.new)) }
     ensures bound { BindsSaid (word_bytes words.now) (H.seen host.old) (H.seen host.new) result }
     ensures unread { KeepsUnread (word_bytes words.now) (H.seen host.old) (H.seen host.new) }
     ensures headline { IsStatusOf result (Headline (word_bytes words.now) (H.seen host.old) (H.seen host.new)) }
@@ -104,7 +104,7 @@ fn bind_and_do<H: Host>(alloc: Global, host: &mut H, plain: Plain<'_>) -> Answer
 // Does the job of a command, once its files are bound.
 fn do_job<H: Host>(alloc: Global, host: &mut H, plain: Plain<'_>) -> Answer
     ensures told { DoesJob (meaning_of plain.entry) (H.seen host.old) (H.seen host.new) result }
-    ensures stays { Stays (reads (meaning_of plain.entry).command) (H.seen host.old).world (H.seen host.new).world }
+    ensures stays { LeavesUnread (reads (meaning_of plain.entry).command) (H.seen host.old).world (H.seen host.new).world }
 {
     match plain.core {
         CoreSize::OneModule => do_job_in::<1, H>(alloc, host, plain),
@@ -117,7 +117,7 @@ fn do_job<H: Host>(alloc: Global, host: &mut H, plain: Plain<'_>) -> Answer
 fn do_job_in<const M: u32, H: Host>(alloc: Global, host: &mut H, plain: Plain<'_>) -> Answer
     requires { IsSize M }
     ensures told { DoesJobIn M (meaning_of plain.entry) (H.seen host.old) (H.seen host.new) result }
-    ensures stays { Stays (reads (meaning_of plain.entry).command) (H.seen host.old).world (H.seen host.new).world }
+    ensures stays { LeavesUnread (reads (meaning_of plain.entry).command) (H.seen host.old).world (H.seen host.new).world }
 {
     let settings = plain.settings;
     match plain.command {

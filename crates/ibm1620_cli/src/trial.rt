@@ -4,7 +4,7 @@ ghost use Rattle.digit_core.specs.Size.{size};
 ghost use Rattle.ibm1620_cli.specs.TrialJob.{TriesSource, TriesAssembled, trial_line, trial_modules, steps_of};
 ghost use Rattle.command_line.specs.Numbers.{AreNumbers};
 ghost use Rattle.ibm1620_cli.specs.Inputs.{reads_feed};
-ghost use Rattle.ibm1620_cli.specs.Parts.{IsSound, ReportsTrial, Stays};
+ghost use Rattle.ibm1620_cli.specs.Parts.{IsSoundSource, ReportsTrial, LeavesUnread};
 
 use crate::answer::Answer;
 use crate::execute::no_script;
@@ -24,7 +24,7 @@ use std::alloc::Global;
 pub(crate) fn try_source<H: Host>(alloc: Global, host: &mut H, settings: Settings) -> Answer
     requires fits { AreNumbers settings.statements settings.number }
     ensures promise { TriesSource settings (H.seen host.old) (H.seen host.new) result }
-    ensures stays { Stays reads_feed (H.seen host.old).world (H.seen host.new).world }
+    ensures stays { LeavesUnread reads_feed (H.seen host.old).world (H.seen host.new).world }
 {
     let source = match generate(alloc, settings.statements, settings.number) {
         Ok(source) => source,
@@ -46,10 +46,10 @@ fn try_assembled<H: Host>(
     sound: &SoundSource,
     settings: Settings,
 ) -> Answer
-    requires is { IsSound trial_modules sound.now }
+    requires is { IsSoundSource trial_modules sound.now }
     ensures promise { TriesAssembled settings sound.now.source.items
         (H.seen host.old) (H.seen host.new) result }
-    ensures stays { Stays reads_feed (H.seen host.old).world (H.seen host.new).world }
+    ensures stays { LeavesUnread reads_feed (H.seen host.old).world (H.seen host.new).world }
 {
     let script = match no_script(alloc) {
         Ok(script) => script,

@@ -10,19 +10,19 @@ use Rattle.outside_io.specs.declared.trouble.Doing.TheVariants.{Open, Empty, Rea
 use Rattle.outside_io.specs.declared.trouble.Cause.{Cause}
 use Rattle.outside_io.specs.declared.trouble.Cause.TheVariants.{System, SameFile, StandardOutput, InUse, NothingTaken}
 use Rattle.outside_io.specs.declared.trouble.Trouble.{Trouble}
-use Rattle.job_messages.specs.declared.faults.Fault.{Fault}
-use Rattle.job_messages.specs.declared.faults.Place.{Place}
+use Rattle.job_messages.specs.declared.faults.UnitFault.{UnitFault}
+use Rattle.job_messages.specs.declared.faults.FaultPlace.{FaultPlace}
 use Rattle.job_messages.specs.declared.faults.Remedy.{Remedy}
 use Rattle.job_messages.specs.Names.{file_text, option_text}
 
 -- where it failed: at a named file, or else the standard output or the blank pack
-abbrev pub place_of : unit.Unit → Option (List ℕ) → List ℕ
-place_of u (Some name) = file_text u (Some name)
-place_of Pack None = codes "the blank pack"
-place_of u None = codes "the standard output"
+abbrev pub fault_place : unit.Unit → Option (List ℕ) → List ℕ
+fault_place u (Some name) = file_text u (Some name)
+fault_place Pack None = codes "the blank pack"
+fault_place u None = codes "the standard output"
 
-abbrev pub place_text : Place → List ℕ
-place_text p = place_of p.unit (option_copied p.file)
+abbrev pub place_text : FaultPlace → List ℕ
+place_text p = fault_place p.unit (option_copied p.file)
 
 -- what could not be done
 abbrev pub failed : Doing → List ℕ
@@ -73,8 +73,8 @@ remedy_text r = remedy_by r.trouble.now.cause r.trouble.now.unit r.trouble.now.d
 -- WHAT A FAILURE SAYS: where, why, and what to do
 unfoldable pub fault_words : Trouble → Option (List ℕ) → Option (List ℕ)
 fault_words t file =
-    option_append (Some (codes "ibm1620: " ++ place_of t.unit file))
+    option_append (Some (codes "ibm1620: " ++ fault_place t.unit file))
     (option_append (cause_text t.cause) (Some (remedy_by t.cause t.unit t.doing (is_some file))))
 
-abbrev pub fault_text : Fault → Option (List ℕ)
+abbrev pub fault_text : UnitFault → Option (List ℕ)
 fault_text t = fault_words t.trouble.now (option_copied t.file)

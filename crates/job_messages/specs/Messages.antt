@@ -16,14 +16,14 @@ use Rattle.ibm1620_cli.specs.declared.status.Status.{Status}
 use Rattle.ibm1620_cli.specs.declared.status.Status.TheVariants.{Halted, Assembled, Generated, Placed, CheckStop, Limit, NeedCards, NeedKeys, HostFault, Jam, SessionEnded}
 use Rattle.message_hints.specs.declared.mistaken.Confusion.{Confusion}
 use Rattle.message_hints.specs.declared.refused.Refused as shown
-use Rattle.job_messages.specs.declared.messages.Ending.{Ending}
+use Rattle.job_messages.specs.declared.messages.JobEnding.{JobEnding}
 use Rattle.job_messages.specs.declared.messages.Message.{Message}
 use Rattle.job_messages.specs.declared.told.BadCharacters.{BadCharacters}
 use Rattle.message_hints.specs.Mistakes.{confusion_text}
 use Rattle.message_hints.specs.Refusals.{PicturesLine}
 use Rattle.job_messages.specs.Console.{console_line}
 use Rattle.job_messages.specs.Statuses.{happened_text}
-use Rattle.job_messages.specs.Told.{bad_text, lost_text, standing_text}
+use Rattle.job_messages.specs.Told.{bad_text, lost_text, standing_message}
 
 -- a job that ends so has nothing to say of that
 abbrev pub says_nothing : Status → Bool
@@ -84,7 +84,7 @@ PicturesRefusal None refused = refused ≡ None
 PicturesRefusal (Some line) refused = PicturesLine line refused
 
 -- this is the message of a job with these words that ended so; which hints it has, which word does not fit and what a file looks like is left open
-pub record IsMessageOf (ending : Ending) (words : List (List ℕ)) (m : Message) : Type 0 where
+pub record IsMessageOf (ending : JobEnding) (words : List (List ℕ)) (m : Message) : Type 0 where
   pub status-is : m.happened.status ≡ ending.status
   pub trouble-is : option_copied m.happened.trouble ≡ option_copied ending.trouble
   pub part-is : m.happened.part ≡ part_shown ending.answer.now.console
@@ -114,14 +114,14 @@ bad_or_none None = []
 bad_or_none (Some bad) = bad_text bad
 
 -- the statement at IR, and behind it the console's line, where they are shown
-abbrev pub shown_text : Option Console → Option StandingLine → List ℕ
-shown_text None statement = []
-shown_text (Some console) None = console_line console
-shown_text (Some console) (Some statement) = standing_text statement ++ console_line console
+abbrev pub standing_and_console : Option Console → Option StandingLine → List ℕ
+standing_and_console None statement = []
+standing_and_console (Some console) None = console_line console
+standing_and_console (Some console) (Some statement) = standing_message statement ++ console_line console
 
 -- WHAT A MESSAGE SAYS, where it is told: what happened, what a file looks like, bad characters, the console, and cards that are lost
 abbrev pub message_text : Message → Option (List ℕ)
 message_text m =
     option_append (happened_text m.happened)
     (Some (confused_text m.confusion ++ bad_or_none m.bad_cards ++ bad_or_none m.bad_keys
-    ++ shown_text (option_copied m.console) (option_copied m.statement) ++ lost_text m.lost_cards))
+    ++ standing_and_console (option_copied m.console) (option_copied m.statement) ++ lost_text m.lost_cards))

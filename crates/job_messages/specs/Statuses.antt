@@ -22,20 +22,20 @@ use Rattle.command_line.specs.declared.said.Read.{Read}
 use Rattle.command_line.specs.Known.{core_of, file_of}
 use Rattle.message_hints.specs.Breaches.{breach_text}
 use Rattle.message_hints.specs.Problems.{misuse_text}
-use Rattle.message_hints.specs.Refusals.{refused_text}
+use Rattle.message_hints.specs.Refusals.{refusal_shown}
 use Rattle.job_messages.specs.Checks.{advice, meaning}
 use Rattle.job_messages.specs.Faults.{fault_words}
 use Rattle.job_messages.specs.Parts.{address_text, part_line}
 use Rattle.job_messages.specs.Words.{fault_file, named_by}
 
 -- a refused statement, where it is shown
-abbrev pub shown_text : Option shown.Refused → List ℕ
-shown_text None = []
-shown_text (Some refused) = refused_text refused
+abbrev pub standing_and_console : Option shown.Refused → List ℕ
+standing_and_console None = []
+standing_and_console (Some refused) = refusal_shown refused
 
 -- the file and the statement that is refused, and what its rule says
-unfoldable pub refusal_line : List ℕ → ℕ → Rule → CoreSize → List ℕ
-refusal_line source statement rule core =
+unfoldable pub refusal_sentence : List ℕ → ℕ → Rule → CoreSize → List ℕ
+refusal_sentence source statement rule core =
     codes "ibm1620: " ++ source ++ codes ": statement " ++ decimal statement ++ codes ": "
     ++ breach_text (record { rule = rule; core = core }) ++ codes "\n"
 
@@ -54,7 +54,7 @@ lint_text rule source = []
 -- a refused source: that line, what is shown of the statement, where to look further, and the rule
 unfoldable pub refusal_text : Read → ℕ → Rule → Option shown.Refused → List ℕ
 refusal_text read statement rule refused =
-    refusal_line (named_by read Source) statement rule (core_of read) ++ shown_text refused
+    refusal_sentence (named_by read Source) statement rule (core_of read) ++ standing_and_console refused
     ++ lint_text rule (file_of read Source) ++ rule_text rule
 
 -- what may help where an address lies outside a core that is not the largest
@@ -64,15 +64,15 @@ larger_text Address TwoModules = codes "ibm1620: where the address lies in a lar
 larger_text kind core = []
 
 -- the number and the meaning of a check stop, and the address of its instruction
-unfoldable pub check_line : Stop → ℕ → List ℕ
-check_line kind at =
+unfoldable pub check_sentence : Stop → ℕ → List ℕ
+check_sentence kind at =
     codes "ibm1620: check " ++ digits_to_width 2 (stop_number kind) ++ codes ": " ++ meaning kind
     ++ codes ", at " ++ address_text at ++ codes "\n"
 
 -- a check stop: that line, the part that it is about, and what to look at
 unfoldable pub check_text : Stop → ℕ → Option CheckPart → CoreSize → List ℕ
 check_text kind at part core =
-    check_line kind at ++ part_line kind at part ++ codes "ibm1620: " ++ advice kind ++ codes "\n" ++ larger_text kind core
+    check_sentence kind at ++ part_line kind at part ++ codes "ibm1620: " ++ advice kind ++ codes "\n" ++ larger_text kind core
 
 -- how the last steps are seen, where a deck or else a source is known
 unfoldable pub trace_text : Option (List ℕ) → Option (List ℕ) → List ℕ

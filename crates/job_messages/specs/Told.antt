@@ -1,6 +1,6 @@
 -- What is told of a job beside how it ended.
 use Rattle.std.specs.Prelude.{ℕ, ◌-◌, ◌==◌, if◌then◌else◌, List, [], ◌++◌, codes, decimal}
-use Rattle.message_hints.specs.Escapes.{cell_text, cells_text}
+use Rattle.message_hints.specs.Escapes.{cell_text, escaped_cells}
 use Rattle.sps_listing.specs.declared.standing.StandingLine.{StandingLine}
 use Rattle.job_messages.specs.declared.told.BadCharacters.{BadCharacters}
 use Rattle.job_messages.specs.Names.{named_text}
@@ -22,13 +22,13 @@ unfoldable pub number_text : ℕ → List ℕ
 number_text statement = codes "ibm1620: statement " ++ decimal statement ++ codes " stands at IR:\n"
 
 unfoldable pub source_line_text : List ℕ → List ℕ
-source_line_text line = codes "ibm1620: " ++ cells_text line ++ codes "\n"
+source_line_text line = codes "ibm1620: " ++ escaped_cells line ++ codes "\n"
 
-unfoldable pub statement_text : ℕ → List ℕ → List ℕ
-statement_text statement line = number_text statement ++ source_line_text line
+unfoldable pub numbered_statement : ℕ → List ℕ → List ℕ
+numbered_statement statement line = number_text statement ++ source_line_text line
 
-abbrev pub standing_text : StandingLine → List ℕ
-standing_text s = statement_text s.statement s.text.items
+abbrev pub standing_message : StandingLine → List ℕ
+standing_message s = numbered_statement s.statement s.text.items
 
 -- how many cards were punched to no file
 abbrev pub lost_text : ℕ → List ℕ

@@ -58,7 +58,7 @@ fn look_at(stop: Stop) -> &'static str
 }
 
 // The number of a stop.
-pub(crate) fn number_of(stop: Stop) -> u32
+pub(crate) fn stop_number(stop: Stop) -> u32
     ensures { result ≡ stop_number stop }
 {
     u32::from(stop.number())

@@ -2,7 +2,7 @@
 ghost use Rattle.std.specs.Prelude.{◌≡◌, Some};
 ghost use Rattle.job_messages.specs.Console.{console_line, indicators_of, lamps_words, reached_words, stops_of, switches_of};
 
-use crate::lists::{Codes, Cylinders, Lamp, ShownCells, those_on};
+use crate::lists::{Codes, Cylinders, NumberedLamp, ShownCells, those_on};
 use crate::numbers::Address;
 use crate::parts::PartWords;
 use cpu_step::Console;
@@ -19,7 +19,7 @@ impl fmt::Display for ConsoleLine<'_> {
     fn fmt<W: fmt::Write>(&self, f: &mut fmt::Formatter<W>) -> fmt::Result {
         let console = self.0;
         let lamps = Lamps(&console.panel);
-        let reached = Reached(console);
+        let reached = ConsoleRest(console);
         let ir = Address(console.regs.ir);
         let ir2 = Address(console.regs.ir2);
         let cells = ShownCells(console.cells);
@@ -50,9 +50,9 @@ impl fmt::Display for Lamps<'_> {
 
 // Where the arms stand, how many cards and lines were read, and the part that a check is about.
 #[derive(Clone, Copy)]
-struct Reached<'c>(&'c Console);
+struct ConsoleRest<'c>(&'c Console);
 
-impl fmt::Display for Reached<'_> {
+impl fmt::Display for ConsoleRest<'_> {
     ghost output = { λ r. Some (reached_words r.0.now) };
 
     #[tactic(auto, unfolding(crate::specs::Console::reached_words))]
@@ -71,7 +71,7 @@ impl fmt::Display for Reached<'_> {
 }
 
 // The indicators.
-fn indicators_of(panel: &Panel) -> [Lamp; 11]
+fn indicators_of(panel: &Panel) -> [NumberedLamp; 11]
     ensures { result ≡ indicators_of panel.now }
 {
     [
@@ -90,7 +90,7 @@ fn indicators_of(panel: &Panel) -> [Lamp; 11]
 }
 
 // The program switches.
-fn switches_of(panel: &Panel) -> [Lamp; 4]
+fn switches_of(panel: &Panel) -> [NumberedLamp; 4]
     ensures { result ≡ switches_of panel.now }
 {
     [

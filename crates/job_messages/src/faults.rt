@@ -8,19 +8,19 @@ use std::fmt;
 
 // A failure of the host, and the file that the words name for its unit. Without one it is the standard output, or the blank pack.
 #[derive(Clone, Copy)]
-pub(crate) struct Fault<'a> {
+pub(crate) struct UnitFault<'a> {
     pub(crate) trouble: &'a Trouble,
     pub(crate) file: Option<&'a str>,
 }
 
-impl fmt::Display for Fault<'_> {
+impl fmt::Display for UnitFault<'_> {
     ghost output = { fault_text };
 
     #[tactic(auto, unfolding(crate::specs::Faults::fault_words))]
     fn fmt<W: fmt::Write>(&self, f: &mut fmt::Formatter<W>) -> fmt::Result {
         let unit = self.trouble.unit;
         let file = self.file;
-        let place = Place { unit, file };
+        let place = FaultPlace { unit, file };
         let cause = Failure(self.trouble);
         let remedy = Remedy {
             trouble: self.trouble,
@@ -32,12 +32,12 @@ impl fmt::Display for Fault<'_> {
 
 // Where it failed.
 #[derive(Clone, Copy)]
-struct Place<'a> {
+struct FaultPlace<'a> {
     unit: Unit,
     file: Option<&'a str>,
 }
 
-impl fmt::Display for Place<'_> {
+impl fmt::Display for FaultPlace<'_> {
     ghost output = { λ p. Some (place_text p) };
 
     fn fmt<W: fmt::Write>(&self, f: &mut fmt::Formatter<W>) -> fmt::Result {

@@ -17,4 +17,4 @@ mod statuses;
 mod told;
 mod words;
 
-pub use messages::{Ending, Message};
+pub use messages::{JobEnding, Message};

@@ -11,13 +11,13 @@ use digit_core::{CellFault, Digit};
 use std::{fmt, str};
 
 // An indicator or a switch: its code, and whether it is on.
-pub(crate) type Lamp = (u32, bool);
+pub(crate) type NumberedLamp = (u32, bool);
 
 // How many indicators a list has at most.
 pub(crate) const MOST_LAMPS: usize = 11;
 
 // The codes of those that are on.
-pub(crate) fn those_on(lamps: &[Lamp]) -> ArrayVec<u32, MOST_LAMPS>
+pub(crate) fn those_on(lamps: &[NumberedLamp]) -> ArrayVec<u32, MOST_LAMPS>
     requires { length lamps.now ≤ MOST_LAMPS }
     ensures { result.items ≡ those_on lamps.now }
 {
@@ -102,7 +102,7 @@ fn cell_chars(cells: [u8; 12]) -> ArrayVec<u8, 12>
 fn cell_char(cell: u8) -> u8
     ensures { result ≡ cell_char cell }
 {
-    match digit_of(cell) {
+    match read_cell(cell) {
         Ok(digit) => object_char(digit),
         Err(_) => b'?',
     }
@@ -110,7 +110,7 @@ fn cell_char(cell: u8) -> u8
 
 // What a cell's number says: its digit, or its first fault.
 #[tactic(auto, unfolding(digit_core::specs::Cell::read_cell))]
-fn digit_of(c: u8) -> Result<Digit, CellFault>
+fn read_cell(c: u8) -> Result<Digit, CellFault>
     ensures is { result ≡ read_cell c }
     ensures good { IfOk result IsGood }
 {

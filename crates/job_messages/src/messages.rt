@@ -1,7 +1,7 @@
 // What a job says on the standard error, by how it ended.
 // Source: this project's own.
 ghost use Rattle.std.specs.Prelude.{◌≡◌, Some, option_copied};
-ghost use Rattle.job_messages.specs.Messages.{TellsBad, bad_or_none, confused_text, console_shown, says_nothing, shown_text, stands_still};
+ghost use Rattle.job_messages.specs.Messages.{TellsBad, bad_or_none, confused_text, console_shown, says_nothing, standing_and_console, stands_still};
 
 use crate::console::ConsoleLine;
 use crate::names::SOME_FILE;
@@ -18,7 +18,7 @@ use std::fmt;
 
 /// How a job ended, and what is told of it.
 #[derive(Clone, Copy)]
-pub struct Ending<'a> {
+pub struct JobEnding<'a> {
     /// How it ended, its files finished.
     pub status: Status,
     /// What the program's call answered.
@@ -54,7 +54,7 @@ impl<'a> Message<'a> {
     ghost use Rattle.ibm1620_cli.specs.Job.{word_bytes};
 
     /// What is said of a job that ended so, by its words as they were read.
-    pub fn of(ending: Ending<'a>, read: &'a Read<'a>) -> Message<'a>
+    pub fn of(ending: JobEnding<'a>, read: &'a Read<'a>) -> Message<'a>
         ensures { IsMessageOf ending.entry (word_bytes read.now.words.now) result }
     {
         let answer = ending.answer;
@@ -114,9 +114,9 @@ impl fmt::Display for Message<'_> {
     fn fmt<W: fmt::Write>(&self, f: &mut fmt::Formatter<W>) -> fmt::Result {
         let happened = self.happened;
         let confused = Confused(self.confusion);
-        let cards = Bad(self.bad_cards);
-        let keys = Bad(self.bad_keys);
-        let shown = Shown {
+        let cards = BadCharactersOrNone(self.bad_cards);
+        let keys = BadCharactersOrNone(self.bad_keys);
+        let shown = StandingAndConsole {
             console: self.console,
             statement: self.statement,
         };
@@ -232,9 +232,9 @@ impl fmt::Display for Confused<'_> {
 
 // Bad characters, where there are some.
 #[derive(Clone, Copy)]
-struct Bad<'a>(Option<BadCharacters<'a>>);
+struct BadCharactersOrNone<'a>(Option<BadCharacters<'a>>);
 
-impl fmt::Display for Bad<'_> {
+impl fmt::Display for BadCharactersOrNone<'_> {
     ghost output = { λ b. Some (bad_or_none b.0) };
 
     fn fmt<W: fmt::Write>(&self, f: &mut fmt::Formatter<W>) -> fmt::Result {
@@ -247,13 +247,13 @@ impl fmt::Display for Bad<'_> {
 
 // The statement at IR, and behind it the console's line, where they are shown.
 #[derive(Clone, Copy)]
-struct Shown<'a> {
+struct StandingAndConsole<'a> {
     console: Option<&'a Console>,
     statement: Option<&'a StandingLine>,
 }
 
-impl fmt::Display for Shown<'_> {
-    ghost output = { λ s. Some (shown_text (option_copied s.console) (option_copied s.statement)) };
+impl fmt::Display for StandingAndConsole<'_> {
+    ghost output = { λ s. Some (standing_and_console (option_copied s.console) (option_copied s.statement)) };
 
     fn fmt<W: fmt::Write>(&self, f: &mut fmt::Formatter<W>) -> fmt::Result {
         match (self.console, self.statement) {

@@ -14,9 +14,9 @@ const UNITS_OF_Q: u32 = 11;
 
 // An address as the console's line has it; a hyphen where there is none.
 #[derive(Clone, Copy)]
-struct Place(Option<u32>);
+struct AddressOrNone(Option<u32>);
 
-impl fmt::Display for Place {
+impl fmt::Display for AddressOrNone {
     ghost output = { λ p. Some (place_text p.0) };
 
     fn fmt<W: fmt::Write>(&self, f: &mut fmt::Formatter<W>) -> fmt::Result {
@@ -50,9 +50,9 @@ impl fmt::Display for PartWords {
                 write!(f, " PART Q AT {units}")
             }
             Some(CheckPart::Action { p, q, cell }) => {
-                let cell = Place(cell);
+                let cell = AddressOrNone(cell);
                 let p = Address(p);
-                let q = Place(q);
+                let q = AddressOrNone(q);
                 write!(f, " PART ACTION AT {cell} P {p} Q {q}")
             }
         }

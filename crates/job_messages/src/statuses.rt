@@ -1,10 +1,10 @@
 // What a job says of its end, by its status.
 ghost use Rattle.std.specs.Prelude.{◌≡◌, Some, option_copied};
 ghost use Rattle.job_messages.specs.Words.{file_text_of};
-ghost use Rattle.job_messages.specs.Statuses.{bad_command_text, bad_script_text, check_line, check_text, happened_text, host_fault_text, jam_text, larger_text, limit_text, lint_text, longest, more_lines_text, need_cards_text, need_keys_text, no_line_text, put_cards_text, refusal_line, refusal_text, rule_text, shown_text, too_long_text, trace_text};
+ghost use Rattle.job_messages.specs.Statuses.{bad_command_text, bad_script_text, check_sentence, check_text, happened_text, host_fault_text, jam_text, larger_text, limit_text, lint_text, longest, more_lines_text, need_cards_text, need_keys_text, no_line_text, put_cards_text, refusal_sentence, refusal_text, rule_text, standing_and_console, too_long_text, trace_text};
 
-use crate::checks::{Advice, Meaning, number_of};
-use crate::faults::Fault;
+use crate::checks::{Advice, Meaning, stop_number};
+use crate::faults::UnitFault;
 use crate::numbers::{Address, Code};
 use crate::parts::PartLine;
 use crate::words::{FileOf, fault_file};
@@ -47,7 +47,7 @@ impl fmt::Display for Happened<'_> {
             | Status::Generated { .. }
             | Status::Placed { .. }
             | Status::SessionEnded => Ok(()),
-            Status::Refused { statement, rule } => f.write(Refusal {
+            Status::Refused { statement, rule } => f.write(RefusalMessage {
                 read,
                 statement,
                 rule,
@@ -78,14 +78,14 @@ impl fmt::Display for Happened<'_> {
 
 // A refused source.
 #[derive(Clone, Copy)]
-struct Refusal<'a> {
+struct RefusalMessage<'a> {
     read: &'a Read<'a>,
     statement: u32,
     rule: Rule,
     shown: Option<Refused<'a>>,
 }
 
-impl fmt::Display for Refusal<'_> {
+impl fmt::Display for RefusalMessage<'_> {
     ghost output = { λ r. Some (refusal_text r.read.now r.statement r.rule r.shown) };
 
     #[tactic(auto, unfolding(crate::specs::Statuses::refusal_text))]
@@ -100,7 +100,7 @@ impl fmt::Display for Refusal<'_> {
             rule: self.rule,
             core: read.core(),
         };
-        let shown = Shown(self.shown);
+        let shown = RefusedOrNone(self.shown);
         let lint = Lint {
             rule: self.rule,
             file: read.file(Unit::Source),
@@ -145,9 +145,9 @@ struct RefusalLine<'a> {
 }
 
 impl fmt::Display for RefusalLine<'_> {
-    ghost output = { λ r. Some (refusal_line (file_text_of r.source) r.statement r.rule r.core) };
+    ghost output = { λ r. Some (refusal_sentence (file_text_of r.source) r.statement r.rule r.core) };
 
-    #[tactic(auto, unfolding(crate::specs::Statuses::refusal_line))]
+    #[tactic(auto, unfolding(crate::specs::Statuses::refusal_sentence))]
     fn fmt<W: fmt::Write>(&self, f: &mut fmt::Formatter<W>) -> fmt::Result {
         let source = self.source;
         let statement = self.statement;
@@ -179,10 +179,10 @@ impl fmt::Display for Law {
 
 // A refused statement, where it is shown.
 #[derive(Clone, Copy)]
-struct Shown<'a>(Option<Refused<'a>>);
+struct RefusedOrNone<'a>(Option<Refused<'a>>);
 
-impl fmt::Display for Shown<'_> {
-    ghost output = { λ s. Some (shown_text s.0) };
+impl fmt::Display for RefusedOrNone<'_> {
+    ghost output = { λ s. Some (standing_and_console s.0) };
 
     fn fmt<W: fmt::Write>(&self, f: &mut fmt::Formatter<W>) -> fmt::Result {
         match self.0 {
@@ -231,11 +231,11 @@ struct CheckLine {
 }
 
 impl fmt::Display for CheckLine {
-    ghost output = { λ c. Some (check_line c.kind c.at) };
+    ghost output = { λ c. Some (check_sentence c.kind c.at) };
 
-    #[tactic(auto, unfolding(crate::specs::Statuses::check_line))]
+    #[tactic(auto, unfolding(crate::specs::Statuses::check_sentence))]
     fn fmt<W: fmt::Write>(&self, f: &mut fmt::Formatter<W>) -> fmt::Result {
-        let number = Code(number_of(self.kind));
+        let number = Code(stop_number(self.kind));
         let meaning = Meaning(self.kind);
         let at = Address(self.at);
         write!(f, "ibm1620: check {number}: {meaning}, at {at}\n")
@@ -279,7 +279,7 @@ impl fmt::Display for Limit<'_> {
     #[tactic(auto, unfolding(crate::specs::Statuses::limit_text))]
     fn fmt<W: fmt::Write>(&self, f: &mut fmt::Formatter<W>) -> fmt::Result {
         let steps = self.steps;
-        let trace = Trace {
+        let trace = TraceAdvice {
             deck: self.read.file(Unit::Deck),
             source: self.read.file(Unit::Source),
         };
@@ -293,12 +293,12 @@ impl fmt::Display for Limit<'_> {
 
 // How the last steps are seen, where a deck or a source is known.
 #[derive(Clone, Copy)]
-struct Trace<'a> {
+struct TraceAdvice<'a> {
     deck: Option<&'a str>,
     source: Option<&'a str>,
 }
 
-impl fmt::Display for Trace<'_> {
+impl fmt::Display for TraceAdvice<'_> {
     ghost output = { λ t. Some (trace_text (option_copied t.deck) (option_copied t.source)) };
 
     #[tactic(auto, unfolding(crate::specs::Statuses::trace_text))]
@@ -555,7 +555,7 @@ impl fmt::Display for HostFault<'_> {
             None => f.write_str("ibm1620: a file could not be opened, read or written\n"),
             Some(trouble) => {
                 let file = fault_file(self.read, trouble.unit);
-                f.write(Fault { trouble, file })
+                f.write(UnitFault { trouble, file })
             }
         }
     }

@@ -1,6 +1,6 @@
 // What is told of a job beside how it ended: bad characters, the statement at IR, and cards that were punched to no file.
 ghost use Rattle.std.specs.Prelude.{Some};
-ghost use Rattle.job_messages.specs.Told.{bad_text, further_text, lost_text, number_text, source_line_text, standing_text, statement_text};
+ghost use Rattle.job_messages.specs.Told.{bad_text, further_text, lost_text, number_text, source_line_text, standing_message, numbered_statement};
 
 use crate::names::Named;
 use ibm1620_cli::StandingLine;
@@ -55,29 +55,29 @@ impl fmt::Display for Further {
 pub(crate) struct Standing<'a>(pub(crate) &'a StandingLine);
 
 impl fmt::Display for Standing<'_> {
-    ghost output = { λ s. Some (standing_text s.0.now) };
+    ghost output = { λ s. Some (standing_message s.0.now) };
 
     fn fmt<W: fmt::Write>(&self, f: &mut fmt::Formatter<W>) -> fmt::Result {
         let text = self.0.text.as_slice();
         let statement = self.0.statement;
-        f.write(Statement { statement, text })
+        f.write(NumberedStatement { statement, text })
     }
 }
 
 // A statement by its number and its line.
 #[derive(Clone, Copy)]
-struct Statement<'a> {
+struct NumberedStatement<'a> {
     statement: u32,
     text: &'a [u8],
 }
 
-impl fmt::Display for Statement<'_> {
-    ghost output = { λ s. Some (statement_text s.statement s.text.now) };
+impl fmt::Display for NumberedStatement<'_> {
+    ghost output = { λ s. Some (numbered_statement s.statement s.text.now) };
 
-    #[tactic(auto, unfolding(crate::specs::Told::statement_text))]
+    #[tactic(auto, unfolding(crate::specs::Told::numbered_statement))]
     fn fmt<W: fmt::Write>(&self, f: &mut fmt::Formatter<W>) -> fmt::Result {
         let number = StatementLine(self.statement);
-        let line = SourceLine(self.text);
+        let line = SourceLineText(self.text);
         write!(f, "{number}{line}")
     }
 }
@@ -98,9 +98,9 @@ impl fmt::Display for StatementLine {
 
 // A line of a source.
 #[derive(Clone, Copy)]
-struct SourceLine<'a>(&'a [u8]);
+struct SourceLineText<'a>(&'a [u8]);
 
-impl fmt::Display for SourceLine<'_> {
+impl fmt::Display for SourceLineText<'_> {
     ghost output = { λ l. Some (source_line_text l.0.now) };
 
     #[tactic(auto, unfolding(crate::specs::Told::source_line_text))]

@@ -7,7 +7,7 @@ use crate::answers::AnswerPart;
 use crate::files::Files;
 use crate::lines::{RowLine, output_named};
 use crate::texts::{NotTaken, add_bytes};
-use finished_job::{Counting, Said, do_job};
+use finished_job::{Counting, MemorySink, do_job};
 use ibm1620_cli::{Answer, ibm1620_answer};
 use outside_io::{MemHost, Unit};
 use std::alloc::{AllocError, Global};
@@ -152,9 +152,9 @@ impl Job {
     // Does the whole job over the files, with all that lies around it: its code, and what is said of it.
     //
     // The error is want of memory for the host, or for what is said.
-    pub(crate) fn done_whole(&self) -> Result<(u8, Said), AllocError> {
+    pub(crate) fn done_whole(&self) -> Result<(u8, MemorySink), AllocError> {
         let mut host = Counting::over(self.host(self.failing)?);
-        let mut said = Said::new(self.alloc);
+        let mut said = MemorySink::new(self.alloc);
         let code = do_job(
             self.alloc,
             &self.words,

@@ -4,7 +4,7 @@ use Rattle.std.proofs.lemmas.List.{append-nil}
 use Rattle.std.specs.Prelude.{Option, Some, None, Result, Ok, Err}
 use Rattle.outside_io.specs.Lines.{behind_line, first_text, texts_of}
 use Rattle.outside_io.proofs.WholeLines.{texts_of-front}
-use Rattle.line_words.specs.Lines.{item_first, items_from, lines_read}
+use Rattle.line_words.specs.Lines.{item_first, items_from, items_of_lines}
 
 module _ {A : Type 0} where
   -- items that were read, in front of what the lines behind them are
@@ -23,8 +23,8 @@ module _ {A : Type 0} where
   with_more items k item (Err bad) = refl
 
   module _ (item_of : List ℕ → Option A) where
-    pub read_none : (bytes : List ℕ) → with_front [] (items_from item_of 1 (texts_of bytes)) ≡ lines_read item_of bytes
-    unfolding lines_read
+    pub read_none : (bytes : List ℕ) → with_front [] (items_from item_of 1 (texts_of bytes)) ≡ items_of_lines item_of bytes
+    unfolding items_of_lines
     read_none bytes = with_none (items_from item_of 1 (texts_of bytes))
 
     -- a text that is not empty is a line

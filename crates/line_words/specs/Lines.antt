@@ -18,11 +18,11 @@ items_from item_of k ([] ∷ texts) = items_from item_of (k + 1) texts
 items_from item_of k ((b ∷ bytes) ∷ texts) = item_first k (item_of (b ∷ bytes)) (items_from item_of (k + 1) texts)
 
 -- the items that the lines of some bytes are read as; else the number of the first bad line, all lines being counted from 1
-unfoldable pub lines_read : {A : Type 0} → (List ℕ → Option A) → List ℕ → Result (List A) ℕ
-lines_read item_of bytes = items_from item_of 1 (texts_of bytes)
+unfoldable pub items_of_lines : {A : Type 0} → (List ℕ → Option A) → List ℕ → Result (List A) ℕ
+items_of_lines item_of bytes = items_from item_of 1 (texts_of bytes)
 
 -- the reading of lines: the items that the bytes are, or their first bad line, or no memory
 abbrev pub ReadsLines : {A : Type 0} → (List ℕ → Option A) → List ℕ → Result (Vec A Global) LineFault → Type 0
-ReadsLines item_of bytes (Ok items) = lines_read item_of bytes ≡ Ok items.items
-ReadsLines item_of bytes (Err (fault.BadLine line)) = lines_read item_of bytes ≡ Err line
+ReadsLines item_of bytes (Ok items) = items_of_lines item_of bytes ≡ Ok items.items
+ReadsLines item_of bytes (Err (fault.BadLine line)) = items_of_lines item_of bytes ≡ Err line
 ReadsLines item_of bytes (Err fault.Memory) = ⊤

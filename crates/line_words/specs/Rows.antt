@@ -4,30 +4,30 @@ use Rattle.std.specs.Borrow.{Bor}
 use Prim.Native.String.{String}
 
 -- a name and what it stands for
-pub record Row (A : Type 0) : Type 0 where
+pub record NameRow (A : Type 0) : Type 0 where
   pub name : List ℕ
   pub value : A
 
 -- a row as a table shows it
-abbrev pub row : {A : Type 0} → String → A → Row A
+abbrev pub row : {A : Type 0} → String → A → NameRow A
 row name value = record { name = codes name; value = value }
 
 -- a row of the program
-abbrev pub row_from_table : {A : Type 0} → (Bor (List ℕ) × A) → Row A
+abbrev pub row_from_table : {A : Type 0} → (Bor (List ℕ) × A) → NameRow A
 row_from_table p = record { name = p.0.now; value = p.1 }
 
 -- the same names, each for what is made of its value
-abbrev pub with_values : {A B : Type 0} → (A → B) → List (Row A) → List (Row B)
+abbrev pub with_values : {A B : Type 0} → (A → B) → List (NameRow A) → List (NameRow B)
 with_values f rows = map (λ r. record { name = r.name; value = f r.value }) rows
 
 -- what the first row of a name stands for
-unfoldable pub value_by_name : {A : Type 0} → List (Row A) → List ℕ → Option A
+unfoldable pub value_by_name : {A : Type 0} → List (NameRow A) → List ℕ → Option A
 value_by_name [] name = None
 value_by_name (r ∷ rs) name = if bytes_eq name r.name then Some r.value else value_by_name rs name
 
 -- each row of the name stands for what was found
-abbrev pub EachRowStandsFor : {A : Type 0} → List (Row A) → List ℕ → Option A → Type 0
-EachRowStandsFor {A} rows name found = (r : Row A) → Contains rows r → r.name ≡ name → found ≡ Some r.value
+abbrev pub EachRowStandsFor : {A : Type 0} → List (NameRow A) → List ℕ → Option A → Type 0
+EachRowStandsFor {A} rows name found = (r : NameRow A) → Contains rows r → r.name ≡ name → found ≡ Some r.value
 
 -- one of the program's rows has the name, and stands for v
 abbrev pub HasRow : {A : Type 0} → List (Bor (List ℕ) × A) → List ℕ → A → Type 0

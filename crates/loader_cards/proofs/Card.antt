@@ -8,13 +8,13 @@ use Rattle.branch_ops.specs.Registers.{on_at}
 use Rattle.card_code.specs.Entries.{Entry}
 use Rattle.cpu_step.specs.declared.machine.Mode.TheVariants.{Running}
 use Rattle.cpu_step.specs.State.{State}
-use Rattle.sps_pass_two.specs.Image.{Run}
+use Rattle.sps_pass_two.specs.Image.{DigitRun}
 use Rattle.card_columns.specs.Orders.{order, nth}
 use Rattle.deck_punch.specs.Cards.{read_and_go, right_part, unflagging, segment_digits}
-use Rattle.card_steps.proofs.Held.{Holds, part_held, rest_held, same_held, read_held, fetch_held, first_operand, second_operand}
+use Rattle.card_steps.proofs.HeldDigits.{Holds, part_held, rest_held, same_held, read_held, fetch_held, first_operand, second_operand}
 use Rattle.card_steps.proofs.CardsTaken.{Row, row_to}
 use Rattle.card_steps.proofs.Leading.{Leads, leads_on}
-use Rattle.loader_cards.proofs.Moved.{Field, MovesUp, core_moved, moves_up}
+use Rattle.loader_cards.proofs.SegmentMoves.{Field, MovesUp, core_moved, moves_up}
 use Rattle.card_steps.proofs.Rows.{row_TF, row_TD, row_CF, row_NOP}
 use Rattle.loader_cards.proofs.Segments.{IsSegment, Puts}
 use Rattle.card_steps.proofs.NextCard.{next_state, Ready, read_and_jump}
@@ -33,13 +33,13 @@ right_cells core ds le h i l =
     rw (e, get_or-append-add pad ds i (unflagged_digit 0)) at (h.cells (length pad + i) (omega arith))
 
 -- a segment stands in core, the next card in 00000 to 00079, and the machine is at 00000 again
-pub record CardLoads (s : State) (g : Run) (next : List Digit) (rest : List Entry) : Type 0 where
+pub record CardLoads (s : State) (g : DigitRun) (next : List Digit) (rest : List Entry) : Type 0 where
   pub core : List ℕ
   pub puts : Puts s.core core g.from g.digits
   pub leads : Leads 4 s (next_state s core next rest)
 
 -- two steps that put the segment, and then the reading and the jump
-then_read : (s s1 : State) (core : List ℕ) (g : Run) (next : List Digit) (rest : List Entry) → s.regs.ir ≡ 0 → s1.mode ≡ Running → Ready s next rest → Puts s.core core g.from g.digits →
+then_read : (s s1 : State) (core : List ℕ) (g : DigitRun) (next : List Digit) (rest : List Entry) → s.regs.ir ≡ 0 → s1.mode ≡ Running → Ready s next rest → Puts s.core core g.from g.digits →
     Row s s1 → Row s1 (record s { core = core; regs = on_at s.regs 24 }) → Holds core 24 (order 3 6 0 500 []) → CardLoads s g next rest
 then_read s s1 core g next rest at running r p one two i =
     let long : length core ≡ length s.core = p.long in
@@ -104,7 +104,7 @@ module _ (s : State) (low : ℕ) (d e : Digit) (ds : List Digit) (next : List Di
   abbrev fs : List Digit
   fs = top ∷ e ∷ ds
 
-  abbrev the_segment : Run
+  abbrev the_segment : DigitRun
   the_segment = record { from = low; digits = d ∷ e ∷ ds }
 
   abbrev card : ℕ → ℕ → ℕ → List Digit
@@ -237,5 +237,5 @@ by_digits s low (d ∷ []) next rest at r seg h = digit_loads s low d next rest 
 by_digits s low (d ∷ e ∷ ds) next rest at r seg h = many_load s low d e ds next rest at r seg h
 
 -- the card of a segment in 00000 to 00079: four steps, and the segment stands in core
-pub card_loads : (s : State) (g : Run) (next : List Digit) (rest : List Entry) → s.regs.ir ≡ 0 → Ready s next rest → IsSegment (length s.core) g → Holds s.core 0 (segment_digits g.from g.digits) → CardLoads s g next rest
+pub card_loads : (s : State) (g : DigitRun) (next : List Digit) (rest : List Entry) → s.regs.ir ≡ 0 → Ready s next rest → IsSegment (length s.core) g → Holds s.core 0 (segment_digits g.from g.digits) → CardLoads s g next rest
 card_loads s g next rest at r seg h = by_digits s g.from g.digits next rest at r seg h

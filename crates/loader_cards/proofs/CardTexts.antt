@@ -3,7 +3,7 @@ use Rattle.std.proofs.Common.{ℕ, suc, ◌≡◌, ◌+◌, ◌≤◌, Bool, tru
 use Rattle.std.proofs.lemmas.List.{map-append}
 use Rattle.digit_core.specs.declared.Digit.{Digit}
 use Rattle.digit_core.specs.Cell.{with_flag}
-use Rattle.sps_pass_two.specs.Image.{Run}
+use Rattle.sps_pass_two.specs.Image.{DigitRun}
 use Rattle.deck_punch.specs.Cards.{right_part, segment_digits, card_of, transfer_card}
 use Rattle.deck_punch.specs.Cut.{cut_as, cut_piece_as}
 use Rattle.deck_punch.specs.Cover.{Covers, nothing, segment}
@@ -21,12 +21,12 @@ use Rattle.card_columns.proofs.CardTexts.{IsCardText, AreCardTexts, texts_on, di
 use Rattle.deck_punch.proofs.TransferCard.{transfer_text}
 
 -- the cards of pieces, where each segment's is a card
-module _ (form : DeckForm) (card : Run → List ℕ) (each : (a : ℕ) (ds rest : List Digit) → IsFront form ds rest → IsCardText (card (record { from = a; digits = ds }))) where
-  covers_texts : {a : ℕ} {ds : List Digit} {gs : List Run} → Covers (IsFront form) a ds gs → AreCardTexts (map card gs)
+module _ (form : DeckForm) (card : DigitRun → List ℕ) (each : (a : ℕ) (ds rest : List Digit) → IsFront form ds rest → IsCardText (card (record { from = a; digits = ds }))) where
+  covers_texts : {a : ℕ} {ds : List Digit} {gs : List DigitRun} → Covers (IsFront form) a ds gs → AreCardTexts (map card gs)
   covers_texts nothing = tt
   covers_texts {a = a} (segment ds rest front more) = (each a ds rest front, covers_texts more)
 
-  form_texts : (pieces : List Run) → AreCardTexts (map card (cut_as form pieces))
+  form_texts : (pieces : List DigitRun) → AreCardTexts (map card (cut_as form pieces))
   unfolding cut_as
   form_texts [] = tt
   form_texts (p ∷ ps) =
@@ -44,10 +44,10 @@ segment_whole low (d ∷ e ∷ ds) some most = many d.flag (right_length (with_f
     many true whole = omega (arith, whole)
     many false whole = omega (arith, whole)
 
-cut_texts : (pieces : List Run) → AreCardTexts (cards_of pieces)
+cut_texts : (pieces : List DigitRun) → AreCardTexts (cards_of pieces)
 cut_texts pieces = form_texts SelfLoading card_of (λ a ds rest front. digits_text (segment_digits a ds) (segment_whole a ds front.some front.most)) pieces
 
-self_texts : (image : List Run) (start : ℕ) → AreCardTexts (deck image start)
+self_texts : (image : List DigitRun) (start : ℕ) → AreCardTexts (deck image start)
 self_texts image start = texts_on (cards_of (with_tables image)) (transfer_card start ∷ []) (cut_texts (with_tables image)) (transfer_text start, tt)
 
 flagged_length : (a : ℕ) (ds : List Digit) → length (first_flagged a ds).punched ≡ length ds
@@ -76,7 +76,7 @@ dense_whole low (d ∷ e ∷ ds) some most =
     let whole : length (dense_part punched) ≡ 69 = part_length punched (omega arith) in
     omega (arith, whole)
 
-dense_cut_texts : (pieces : List Run) → AreCardTexts (dense_cards_of pieces)
+dense_cut_texts : (pieces : List DigitRun) → AreCardTexts (dense_cards_of pieces)
 dense_cut_texts pieces = form_texts Dense dense_card_of (λ a ds rest front. digits_text (dense_digits a ds) (dense_whole a ds front.some front.most)) pieces
 
 loader_text : IsCardText loader_card
@@ -87,7 +87,7 @@ bridge_text : IsCardText bridge_card
 unfolding bridge_digits
 bridge_text = digits_text bridge_digits refl
 
-dense_texts : (image : List Run) (start : ℕ) → AreCardTexts (dense_deck image start)
+dense_texts : (image : List DigitRun) (start : ℕ) → AreCardTexts (dense_deck image start)
 dense_texts image start =
     subst AreCardTexts (sym (deck_is image start)) (
       loader_text,
@@ -96,6 +96,6 @@ dense_texts image start =
     )
 
 -- whatever the image and the start
-pub deck_texts : (form : DeckForm) (image : List Run) (start : ℕ) → AreCardTexts (deck_in form image start)
+pub deck_texts : (form : DeckForm) (image : List DigitRun) (start : ℕ) → AreCardTexts (deck_in form image start)
 deck_texts SelfLoading image start = self_texts image start
 deck_texts Dense image start = dense_texts image start

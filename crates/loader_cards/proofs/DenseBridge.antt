@@ -5,18 +5,18 @@ use Rattle.std.specs.Prelude.{None}
 use Rattle.digit_core.specs.declared.Digit.{Digit}
 use Rattle.digit_core.specs.Cell.{IsGood, cell, unflagged_digit, with_flag}
 use Rattle.branch_ops.specs.Registers.{on_at}
-use Rattle.card_code.specs.Entries.{Entry, is_empty}
-use Rattle.card_unit.specs.CardCalls.{with_last}
+use Rattle.card_code.specs.Entries.{Entry, has_none_left}
+use Rattle.card_unit.specs.CardCalls.{panel_after_card}
 use Rattle.cpu_step.specs.declared.machine.Mode.TheVariants.{Running}
 use Rattle.cpu_step.specs.State.{State}
 use Rattle.cpu_step.specs.Step.{check_stop}
 use Rattle.card_columns.specs.Orders.{address, order, nth}
 use Rattle.deck_punch.specs.Dense.{loader_digits, bridge_digits}
 use Rattle.card_columns.proofs.GoodDigits.{Good, IsCard, good_by, good_zeros, good_order}
-use Rattle.card_steps.proofs.Held.{Holds, part_held, same_held, cons_held, fetch_held, first_operand}
+use Rattle.card_steps.proofs.HeldDigits.{Holds, part_held, same_held, cons_held, fetch_held, first_operand}
 use Rattle.card_steps.proofs.CardsTaken.{Row}
 use Rattle.card_steps.proofs.Leading.{Leads, leads_none, leads_on, leads_then}
-use Rattle.card_steps.proofs.Laid.{laid, laid_length, laid_elsewhere}
+use Rattle.card_steps.proofs.CardDigits.{laid, laid_length, laid_elsewhere}
 use Rattle.card_steps.proofs.Rows.{row_RN, row_B}
 use Rattle.card_steps.proofs.Lamps.{still_quiet}
 use Rattle.card_steps.proofs.NextCard.{next_state}
@@ -155,10 +155,10 @@ module _ (s : State) (core : List ℕ) (next : List Digit) (rest : List Entry) (
 
   -- the state behind the reading
   abbrev read_state : State
-  read_state = record s { core = c5; hopper = rest; panel = with_last (is_empty rest) s.panel; regs = on_at s.regs 124 }
+  read_state = record s { core = c5; hopper = rest; panel = panel_after_card (has_none_left rest) s.panel; regs = on_at s.regs 124 }
 
-  quiet5 : check_stop (with_last (is_empty rest) s.panel) ≡ None
-  quiet5 = still_quiet s (is_empty rest) quiet
+  quiet5 : check_stop (panel_after_card (has_none_left rest) s.panel) ≡ None
+  quiet5 = still_quiet s (has_none_left rest) quiet
 
   step5 : Row (at_ir s m.new (card_entry next ∷ rest) 112) read_state
   step5 =

@@ -11,7 +11,7 @@ use Rattle.cpu_step.specs.State.{State}
 use Rattle.cpu_step.specs.Step.{check_stop}
 use Rattle.card_columns.specs.Orders.{order, nth}
 use Rattle.deck_punch.specs.Dense.{Repair, repair_of, dense_part, dense_digits, loader_digits}
-use Rattle.card_steps.proofs.Held.{Holds, part_held, same_held, fetch_held, first_operand}
+use Rattle.card_steps.proofs.HeldDigits.{Holds, part_held, same_held, fetch_held, first_operand}
 use Rattle.card_steps.proofs.CardsTaken.{Row}
 use Rattle.card_steps.proofs.Leading.{Leads, leads_none, leads_on, leads_then}
 use Rattle.card_steps.proofs.Rows.{row_B}

@@ -7,15 +7,15 @@ use Rattle.digit_core.specs.Size.{IsSize, size}
 use Rattle.indicators.specs.Panel.{set}
 use Rattle.indicators.specs.Lamps.{panel_for_load}
 use Rattle.branch_ops.specs.Registers.{on_at}
-use Rattle.card_code.specs.Entries.{Entry, Text, is_empty}
+use Rattle.card_code.specs.Entries.{Entry, Text, has_none_left}
 use Rattle.indicators.specs.declared.codes.TheConstants.{LAST_CARD}
-use Rattle.card_unit.specs.Reader.{read_numeric}
+use Rattle.card_unit.specs.Reader.{read_card_numeric}
 use Rattle.cpu_step.specs.declared.machine.Mode.TheVariants.{Running}
 use Rattle.cpu_step.specs.State.{State}
 use Rattle.cpu_step.specs.Step.{check_stop}
 use Rattle.cpu_step.specs.Load.{state_for_load, load_key}
-use Rattle.sps_pass_two.specs.Image.{Run, digit_at, declared_digit}
-use Rattle.sps_pass_two.specs.Kept.{IsPiece, IsBelow, lowest_declared}
+use Rattle.sps_pass_two.specs.Image.{DigitRun, digit_at, declared_digit}
+use Rattle.sps_pass_two.specs.Kept.{IsPiece, IsRunBelow, lowest_declared}
 use Rattle.deck_punch.specs.declared.form.DeckForm.TheVariants.{SelfLoading, Dense}
 use Rattle.deck_punch.specs.Cut.{cut, cut_dense}
 use Rattle.card_columns.specs.Orders.{address, order}
@@ -28,31 +28,31 @@ use Rattle.deck_punch.specs.Overlay.{cell_or, overlay}
 use Rattle.card_steps.specs.Steps.{after_steps}
 use Rattle.loader_cards.specs.Loads.{state_at_start, LoadsOver, Loads}
 use Rattle.card_columns.proofs.GoodDigits.{Good, good_address, IsCard, good_zeros, good_order}
-use Rattle.card_steps.proofs.Held.{Holds, same_held}
+use Rattle.card_steps.proofs.HeldDigits.{Holds, same_held}
 use Rattle.card_steps.proofs.Leading.{Leads, leads_none, leads_then, deck_takes}
-use Rattle.card_steps.proofs.Laid.{laid, laid_length, laid_there, laid_elsewhere, ReadsCard, card_read}
+use Rattle.card_steps.proofs.CardDigits.{laid, laid_length, laid_there, laid_elsewhere, ReadsCard, card_read}
 use Rattle.loader_cards.proofs.Segments.{AreSegments, segment_cells, cell_twice, cut_segments}
 use Rattle.card_steps.proofs.NextCard.{next_state}
 use Rattle.loader_cards.proofs.Decks.{front, behind, front_card, deck_hopper, Begins, Ends, deck_loads}
 use Rattle.card_steps.proofs.Lamps.{lamp_first, lamp_twice, quiet_first}
-use Rattle.loader_cards.proofs.Overlaid.{table_low}
-use Rattle.loader_cards.proofs.OverlaidBy.{table_beside, overlaid_by}
+use Rattle.loader_cards.proofs.DeckOverlay.{table_low}
+use Rattle.loader_cards.proofs.OverlayByCells.{table_beside, overlaid_by}
 use Rattle.loader_cards.proofs.DenseParts.{AreDense, dense_segments, segment_low}
 use Rattle.loader_cards.proofs.DenseSteps.{at_ir, card_entry}
 use Rattle.loader_cards.proofs.DenseCard.{segment_loads}
 use Rattle.loader_cards.proofs.DenseBridge.{BridgeLoads, bridge_loads}
 
 -- what stands first in the hopper, and what behind it, where the cards of these segments stand before an entry and more
-abbrev pub first_of : List Run → Entry → Entry
+abbrev pub first_of : List DigitRun → Entry → Entry
 first_of [] b = b
 first_of (g ∷ gs) b = card_entry (dense_digits g.from g.digits)
 
-abbrev pub rest_of : List Run → Entry → List Entry → List Entry
+abbrev pub rest_of : List DigitRun → Entry → List Entry → List Entry
 rest_of [] b more = more
 rest_of (g ∷ gs) b more = first_of gs b ∷ rest_of gs b more
 
 -- the dense segments stand in core, the loader in 00000 to 00079, and all else but the buffer is as before
-pub record DenseLoads (s : State) (core : List ℕ) (gs : List Run) (b : Entry) (more : List Entry) : Type 0 where
+pub record DenseLoads (s : State) (core : List ℕ) (gs : List DigitRun) (b : Entry) (more : List Entry) : Type 0 where
   pub new : List ℕ
   pub leads : Leads (4 * length gs) (at_ir s core (first_of gs b ∷ rest_of gs b more) 0) (at_ir s new (b ∷ more) 0)
   pub loader : Holds new 0 loader_digits
@@ -64,7 +64,7 @@ unfolding loader_digits
 loader_length = refl
 
 -- one card, and then the others
-pub segments_load : (gs : List Run) (s : State) (core : List ℕ) (b : Entry) (more : List Entry) → s.mode ≡ Running → check_stop s.panel ≡ None → length core < 100000 → 180 ≤ length core →
+pub segments_load : (gs : List DigitRun) (s : State) (core : List ℕ) (b : Entry) (more : List Entry) → s.mode ≡ Running → check_stop s.panel ≡ None → length core < 100000 → 180 ≤ length core →
     Holds core 0 loader_digits → AreDense (length core) gs → DenseLoads s core gs b more
 unfolding declared_digit
 segments_load [] s core b more running quiet small room loader are = record {
@@ -103,25 +103,25 @@ loader_good =
     good_order 3 6 100 500 (unflagged_digit 2 ∷ unflagged_digit 6 ∷ indirect 4 (address 179 after)) (omega arith) (omega arith) field
 
 -- the hopper of the dense cards, before other cards
-dense_hopper : (gs : List Run) (b : List ℕ) (later : List (List ℕ)) (rest : List Entry) → map Text (map dense_card_of gs ++ b ∷ later) ++ rest ≡ first_of gs (Text b) ∷ rest_of gs (Text b) (map Text later ++ rest)
+dense_hopper : (gs : List DigitRun) (b : List ℕ) (later : List (List ℕ)) (rest : List Entry) → map Text (map dense_card_of gs ++ b ∷ later) ++ rest ≡ first_of gs (Text b) ∷ rest_of gs (Text b) (map Text later ++ rest)
 dense_hopper [] b later rest = refl
 dense_hopper (g ∷ gs) b later rest = ap (λ (es : List Entry). Text (dense_card_of g) ∷ es) (dense_hopper gs b later rest)
 
 -- the deck by its parts, one behind the other
-pub deck_is : (image : List Run) (start : ℕ) → dense_deck image start ≡ loader_card ∷ (map dense_card_of (cut_dense (other_pieces image)) ++ (bridge_card ∷ (map card_of (cut (table_piece image ∷ [])) ++ (transfer_card start ∷ []))))
+pub deck_is : (image : List DigitRun) (start : ℕ) → dense_deck image start ≡ loader_card ∷ (map dense_card_of (cut_dense (other_pieces image)) ++ (bridge_card ∷ (map card_of (cut (table_piece image ∷ [])) ++ (transfer_card start ∷ []))))
 deck_is image start = ap (λ (texts : List (List ℕ)). loader_card ∷ texts) (append_assoc (map dense_card_of (cut_dense (other_pieces image))) (bridge_card ∷ map card_of (cut (table_piece image ∷ []))) (transfer_card start ∷ []))
 
 -- what the table piece's segments declare
-tables_declare : (image : List Run) (a : ℕ) → declared_digit (cut (table_piece image ∷ [])) a ≡ digit_at (table_piece image) a
+tables_declare : (image : List DigitRun) (a : ℕ) → declared_digit (cut (table_piece image ∷ [])) a ≡ digit_at (table_piece image) a
 unfolding declared_digit
 tables_declare image a = cut_declares SelfLoading (table_piece image ∷ []) a
 
-module _ (image : List Run) (start m : ℕ) (s : State) (rest : List Entry) (sized : IsSize m) (long : length s.core ≡ size m) (each : All IsPiece image) (lowest : All (λ r. lowest_declared ≤ r.from) image) (under : All (IsBelow (size m)) image) (below_end : start < size m)
+module _ (image : List DigitRun) (start m : ℕ) (s : State) (rest : List Entry) (sized : IsSize m) (long : length s.core ≡ size m) (each : All IsPiece image) (lowest : All (λ r. lowest_declared ≤ r.from) image) (under : All (IsRunBelow (size m)) image) (below_end : start < size m)
     (hopper : s.hopper ≡ map Text (dense_deck image start) ++ rest) where
-  abbrev gs : List Run
+  abbrev gs : List DigitRun
   gs = cut_dense (other_pieces image)
 
-  abbrev ts : List Run
+  abbrev ts : List DigitRun
   ts = cut (table_piece image ∷ [])
 
   -- the first self-loading card, and what stands behind it
@@ -167,7 +167,7 @@ module _ (image : List Run) (start m : ℕ) (s : State) (rest : List Entry) (siz
   abbrev s0 : State
   s0 = at_ir base core0 (first_of gs bridge ∷ rest_of gs bridge (card_entry next ∷ later)) 0
 
-  first_read : ReadsCard (state_for_load s) (read_numeric (length s.core) 0 s.hopper) core0 (first_of gs bridge ∷ rest_of gs bridge (card_entry next ∷ later))
+  first_read : ReadsCard (state_for_load s) (read_card_numeric (length s.core) 0 s.hopper) core0 (first_of gs bridge ∷ rest_of gs bridge (card_entry next ∷ later))
   first_read = card_read (first_of gs bridge ∷ rest_of gs bridge (card_entry next ∷ later)) (state_for_load s) 0 loader_digits loader_length loader_good (omega (arith, enough)) hopper_is
 
   key_pressed : load_key s ≡ s0
@@ -204,12 +204,12 @@ module _ (image : List Run) (start m : ℕ) (s : State) (rest : List Entry) (siz
   begins = record {
     at = refl;
     running = refl;
-    quiet = quiet_first s.panel (is_empty later);
+    quiet = quiet_first s.panel (has_none_left later);
     small = omega (arith, small, long2);
     room = omega (arith, enough, long2);
     segments = rw long2 are_segments;
     hopper = refl;
-    lamp = lamp_first s.panel (is_empty later);
+    lamp = lamp_first s.panel (has_none_left later);
     card = laid_there next two.new 0 (omega (arith, enough, whole, long1, two.long));
   }
 
@@ -239,7 +239,7 @@ module _ (image : List Run) (start m : ℕ) (s : State) (rest : List Entry) (siz
   steps = 4 * length gs + (6 + (4 * length ts + 1))
 
   abbrev last : State
-  last = record s { core = ends.core; hopper = rest; panel = set LAST_CARD (is_empty rest) (panel_for_load s.panel); regs = on_at s.regs start; mode = Running }
+  last = record s { core = ends.core; hopper = rest; panel = set LAST_CARD (has_none_left rest) (panel_for_load s.panel); regs = on_at s.regs start; mode = Running }
 
   leads_all : Leads steps s0 last
   leads_all =
@@ -256,17 +256,17 @@ module _ (image : List Run) (start m : ℕ) (s : State) (rest : List Entry) (siz
 
   -- the state that the deck leaves, by the state before the Load key
   abbrev loaded_state : State
-  loaded_state = record s { core = overlay s.core image start; regs = on_at s.regs start; panel = set LAST_CARD (is_empty rest) (panel_for_load s.panel); hopper = rest; mode = Running }
+  loaded_state = record s { core = overlay s.core image start; regs = on_at s.regs start; panel = set LAST_CARD (has_none_left rest) (panel_for_load s.panel); hopper = rest; mode = Running }
 
   steps_made : after_steps steps s0 ≡ loaded_state
-  steps_made = leads_all.there ∙ (λ i. record s { core = core_is i; regs = on_at s.regs start; panel = set LAST_CARD (is_empty rest) (panel_for_load s.panel); hopper = rest; mode = Running })
+  steps_made = leads_all.there ∙ (λ i. record s { core = core_is i; regs = on_at s.regs start; panel = set LAST_CARD (has_none_left rest) (panel_for_load s.panel); hopper = rest; mode = Running })
 
   leads_there : after_steps (dense_steps (length (dense_deck image start))) (load_key s) ≡ loaded_state
   leads_there = ap (after_steps (dense_steps (length (dense_deck image start)))) key_pressed ∙ ap (λ (n : ℕ). after_steps n s0) steps_are ∙ steps_made
 
   is_entered : loaded_state ≡ state_at_start (load_key s) image start s.core rest
   is_entered =
-      (λ i. record s { core = overlay s.core image start; regs = on_at s.regs start; panel = sym (lamp_twice (panel_for_load s.panel) (is_empty rest) false) i; hopper = rest; mode = Running })
+      (λ i. record s { core = overlay s.core image start; regs = on_at s.regs start; panel = sym (lamp_twice (panel_for_load s.panel) (has_none_left rest) false) i; hopper = rest; mode = Running })
       ∙ ap (λ (x : State). state_at_start x image start s.core rest) (sym key_pressed)
 
   loads_over : LoadsOver (dense_deck image start) image start (dense_steps (length (dense_deck image start))) s rest
@@ -277,11 +277,11 @@ module _ (image : List Run) (start m : ℕ) (s : State) (rest : List Entry) (siz
   }
 
 -- for each image whose digits are good and stand from 00100 on, and each start
-pub dense_loads : (image : List Run) (start : ℕ) → All IsPiece image → All (λ r. lowest_declared ≤ r.from) image → Loads (dense_deck image start) image start (dense_steps (length (dense_deck image start)))
+pub dense_loads : (image : List DigitRun) (start : ℕ) → All IsPiece image → All (λ r. lowest_declared ≤ r.from) image → Loads (dense_deck image start) image start (dense_steps (length (dense_deck image start)))
 dense_loads image start each lowest m s rest sized long under below_end hopper = loads_over image start m s rest sized long each lowest under below_end hopper
 
 -- the state that the deck leaves
-pub dense_loaded_from : (image : List Run) (start m : ℕ) (s : State) (rest : List Entry) → All IsPiece image → All (λ r. lowest_declared ≤ r.from) image → IsSize m → length s.core ≡ size m → All (IsBelow (size m)) image → start < size m
+pub dense_loaded_from : (image : List DigitRun) (start m : ℕ) (s : State) (rest : List Entry) → All IsPiece image → All (λ r. lowest_declared ≤ r.from) image → IsSize m → length s.core ≡ size m → All (IsRunBelow (size m)) image → start < size m
     → s.hopper ≡ map Text (dense_deck image start) ++ rest
-    → after_steps (dense_steps (length (dense_deck image start))) (load_key s) ≡ record s { core = overlay s.core image start; regs = on_at s.regs start; panel = set LAST_CARD (is_empty rest) (panel_for_load s.panel); hopper = rest; mode = Running }
+    → after_steps (dense_steps (length (dense_deck image start))) (load_key s) ≡ record s { core = overlay s.core image start; regs = on_at s.regs start; panel = set LAST_CARD (has_none_left rest) (panel_for_load s.panel); hopper = rest; mode = Running }
 dense_loaded_from image start m s rest each lowest sized long under below_end hopper = leads_there image start m s rest sized long each lowest under below_end hopper

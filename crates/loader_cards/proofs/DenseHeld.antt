@@ -4,11 +4,11 @@ use Rattle.std.proofs.lemmas.Bool.Decides.{nat_tests}
 use Rattle.digit_core.specs.declared.Digit.{Digit}
 use Rattle.digit_core.specs.Cell.{IsGood, cell, unflagged_digit, with_flag}
 use Rattle.addr_indirect.specs.Reading.{decimal_at, read_up}
-use Rattle.addr_indirect.specs.Operand.{number, chain, operand}
+use Rattle.addr_indirect.specs.Operand.{number_down, chain, operand}
 use Rattle.addr_indirect.specs.Fetch.{fetch}
 use Rattle.card_columns.specs.Orders.{address}
 use Rattle.card_columns.proofs.GoodDigits.{Good}
-use Rattle.card_steps.proofs.Held.{Holds, read_held, read_up_held, chain_held}
+use Rattle.card_steps.proofs.HeldDigits.{Holds, read_held, read_up_held, chain_held}
 
 -- an instruction whose digits stand in core
 pub fetch_digits : (core : List ℕ) (a : ℕ) (ds : List Digit) → Holds core a ds → Good ds → length ds ≡ 12 → (a % 2 == 1) ≡ false → fetch core a ≡ Ok (record { at = a; cells = ds })
@@ -30,8 +30,8 @@ module _ (core : List ℕ) (b : ℕ) (d0 d1 d2 d3 d4 : Digit) (h : Holds core b 
   pub units_of : decimal_at core (b + 4) ≡ Ok d4
   units_of = any_decimal_held core (b + 4) d4 (omega (arith, inside)) (h.cells 4 (omega arith)) g.1.1.1.1.0 l4
 
-  pub number_of : number core (b + 4) 5 ≡ Ok (d4.value + 10 * (d3.value + 10 * (d2.value + 10 * (d1.value + 10 * (d0.value + 10 * 0)))))
-  unfolding number
+  pub number_of : number_down core (b + 4) 5 ≡ Ok (d4.value + 10 * (d3.value + 10 * (d2.value + 10 * (d1.value + 10 * (d0.value + 10 * 0)))))
+  unfolding number_down
   number_of =
       let e1 : b + 4 - 1 ≡ b + 3 = omega arith in
       let e2 : b + 3 - 1 ≡ b + 2 = omega arith in

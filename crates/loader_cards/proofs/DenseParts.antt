@@ -5,8 +5,8 @@ use Rattle.std.proofs.lemmas.List.Sums.{get_or-le-sum_by, sum_by_more_le}
 use Rattle.std.specs.Prelude.{if◌then◌else◌}
 use Rattle.digit_core.specs.declared.Digit.{Digit}
 use Rattle.digit_core.specs.Cell.{IsGood, unflagged_digit}
-use Rattle.sps_pass_two.specs.Image.{Run}
-use Rattle.sps_pass_two.specs.Kept.{IsPiece, IsBelow}
+use Rattle.sps_pass_two.specs.Image.{DigitRun}
+use Rattle.sps_pass_two.specs.Kept.{IsPiece, IsRunBelow}
 use Rattle.deck_punch.specs.declared.form.DeckForm.TheVariants.{Dense}
 use Rattle.deck_punch.specs.Cut.{flags_within, cut_as, cut_dense, cut_piece_dense}
 use Rattle.card_columns.specs.Orders.{nth}
@@ -60,11 +60,11 @@ abbrev pub IsSegmentAt : ℕ → ℕ → List Digit → Type 0
 IsSegmentAt n a [] = ⊥
 IsSegmentAt n a (d ∷ es) = IsDense n a d es
 
-abbrev pub AreDense : ℕ → List Run → Type 0
+abbrev pub AreDense : ℕ → List DigitRun → Type 0
 AreDense n [] = Unit {0}
 AreDense n (g ∷ gs) = IsSegmentAt n g.from g.digits × AreDense n gs
 
-joined : (n : ℕ) (gs hs : List Run) → AreDense n gs → AreDense n hs → AreDense n (gs ++ hs)
+joined : (n : ℕ) (gs hs : List DigitRun) → AreDense n gs → AreDense n hs → AreDense n (gs ++ hs)
 joined n [] hs g h = h
 joined n (x ∷ gs) hs g h = (g.0, joined n gs hs g.1 h)
 
@@ -78,7 +78,7 @@ dense_at n a (d ∷ es) rest front low high good = record {
   flags = front_part d es rest front;
 }
 
-cover_dense : {a : ℕ} {ds : List Digit} {gs : List Run} → Covers (IsFront Dense) a ds gs → (n : ℕ) → 400 ≤ a → a + length ds ≤ n → ((i : ℕ) → i < length ds → IsGood (nth ds i)) → AreDense n gs
+cover_dense : {a : ℕ} {ds : List Digit} {gs : List DigitRun} → Covers (IsFront Dense) a ds gs → (n : ℕ) → 400 ≤ a → a + length ds ≤ n → ((i : ℕ) → i < length ds → IsGood (nth ds i)) → AreDense n gs
 cover_dense nothing n low high good = tt
 cover_dense {a = a} (segment ds rest front more) n low high good =
     let l = length-append ds rest in (
@@ -87,7 +87,7 @@ cover_dense {a = a} (segment ds rest front more) n low high good =
     )
 
 -- the dense segments of good pieces behind the tables
-pub dense_segments : (n : ℕ) (pieces : List Run) → All IsPiece pieces → All IsBehind pieces → All (IsBelow n) pieces → AreDense n (cut_dense pieces)
+pub dense_segments : (n : ℕ) (pieces : List DigitRun) → All IsPiece pieces → All IsBehind pieces → All (IsRunBelow n) pieces → AreDense n (cut_dense pieces)
 unfolding cut_as
 dense_segments n [] each lowest under = tt
 dense_segments n (r ∷ rs) each lowest under =

@@ -14,12 +14,12 @@ use Rattle.field_moves.specs.Whole.{ReadsFirstDown}
 use Rattle.card_columns.specs.Orders.{address, order, nth}
 use Rattle.deck_punch.specs.Dense.{indirect, loader_digits}
 use Rattle.card_columns.proofs.GoodDigits.{Good, good_address}
-use Rattle.card_steps.proofs.Held.{Holds, part_held, rest_held, same_held, read_held, fetch_held, first_operand, operand_held}
+use Rattle.card_steps.proofs.HeldDigits.{Holds, part_held, rest_held, same_held, read_held, fetch_held, first_operand, operand_held}
 use Rattle.loader_cards.proofs.DenseHeld.{fetch_digits, indirect_held}
 use Rattle.card_steps.proofs.CardsTaken.{Row}
 use Rattle.card_steps.proofs.Leading.{Leads, leads_none, leads_on}
-use Rattle.card_steps.proofs.Laid.{laid, laid_length, laid_there, laid_elsewhere}
-use Rattle.loader_cards.proofs.Moved.{Field, MovesUp, core_moved, moves}
+use Rattle.card_steps.proofs.CardDigits.{laid, laid_length, laid_there, laid_elsewhere}
+use Rattle.loader_cards.proofs.SegmentMoves.{Field, MovesUp, core_moved, moves}
 use Rattle.card_steps.proofs.Rows.{row_TF, row_TD, row_RN}
 
 -- a state with another core, hopper and IR

@@ -5,8 +5,8 @@ use Rattle.std.proofs.lemmas.Bool.{cases_lt}
 use Rattle.std.specs.List.{All}
 use Rattle.digit_core.specs.declared.Digit.{Digit}
 use Rattle.digit_core.specs.Cell.{IsGood, cell, unflagged_digit}
-use Rattle.sps_pass_two.specs.Image.{Run, digit_at, declared_digit, or_else}
-use Rattle.sps_pass_two.specs.Kept.{IsPiece, IsBelow, lowest_declared}
+use Rattle.sps_pass_two.specs.Image.{DigitRun, digit_at, declared_digit, or_else}
+use Rattle.sps_pass_two.specs.Kept.{IsPiece, IsRunBelow, lowest_declared}
 use Rattle.deck_punch.specs.Cut.{cut, cut_piece, cut_as}
 use Rattle.card_columns.specs.Orders.{nth}
 use Rattle.deck_punch.specs.Cover.{IsCutBefore, Covers, nothing, segment}
@@ -16,7 +16,7 @@ use Rattle.deck_punch.proofs.WithTables.{IsBehind}
 use Rattle.deck_punch.specs.Overlay.{cell_or}
 
 -- a segment within a core of n positions: 1 to 32 good digits from 00100 on, with no flag between the lowest and the highest
-pub record IsSegment (n : ℕ) (g : Run) : Type 0 where
+pub record IsSegment (n : ℕ) (g : DigitRun) : Type 0 where
   pub low : 100 ≤ g.from
   pub high : g.from + length g.digits ≤ n
   pub some : 1 ≤ length g.digits
@@ -24,7 +24,7 @@ pub record IsSegment (n : ℕ) (g : Run) : Type 0 where
   pub good : (i : ℕ) → i < length g.digits → IsGood (nth g.digits i)
   pub inside : (i : ℕ) → 0 < i → i + 1 < length g.digits → (nth g.digits i).flag ≡ false
 
-abbrev pub AreSegments : ℕ → List Run → Type 0
+abbrev pub AreSegments : ℕ → List DigitRun → Type 0
 AreSegments n [] = Unit {0}
 AreSegments n (g ∷ gs) = IsSegment n g × AreSegments n gs
 
@@ -35,7 +35,7 @@ pub record Puts (old new : List ℕ) (from : ℕ) (ds : List Digit) : Type 0 whe
   pub long : length new ≡ length old
 
 -- a cell of a core in which a segment was put
-pub segment_cells : (old new : List ℕ) (g : Run) (a : ℕ) → ((i : ℕ) → i < length g.digits → get_or new (g.from + i) 0 ≡ cell (nth g.digits i)) →
+pub segment_cells : (old new : List ℕ) (g : DigitRun) (a : ℕ) → ((i : ℕ) → i < length g.digits → get_or new (g.from + i) 0 ≡ cell (nth g.digits i)) →
     ((a < g.from) ⊎ (g.from + length g.digits ≤ a) → get_or new a 0 ≡ get_or old a 0) → get_or new a 0 ≡ cell_or (digit_at g a) (get_or old a 0)
 segment_cells old new g a there other =
     elim (cases_lt a g.from) [
@@ -49,7 +49,7 @@ segment_cells old new g a there other =
     ]
 
 -- each cell by what the segment has at its address
-pub puts_at : (old new : List ℕ) (g : Run) (a : ℕ) → Puts old new g.from g.digits → get_or new a 0 ≡ cell_or (digit_at g a) (get_or old a 0)
+pub puts_at : (old new : List ℕ) (g : DigitRun) (a : ℕ) → Puts old new g.from g.digits → get_or new a 0 ≡ cell_or (digit_at g a) (get_or old a 0)
 puts_at old new g a p = segment_cells old new g a p.there (p.others a)
 
 -- two segments, one after the other
@@ -58,7 +58,7 @@ cell_twice (Some d) p x = refl
 cell_twice None p x = refl
 
 -- a cover's runs are segments
-pub cover_segments : {a : ℕ} {ds : List Digit} {gs : List Run} → Covers IsCutBefore a ds gs → (n : ℕ) → 100 ≤ a → a + length ds ≤ n → ((i : ℕ) → i < length ds → IsGood (nth ds i)) → AreSegments n gs
+pub cover_segments : {a : ℕ} {ds : List Digit} {gs : List DigitRun} → Covers IsCutBefore a ds gs → (n : ℕ) → 100 ≤ a → a + length ds ≤ n → ((i : ℕ) → i < length ds → IsGood (nth ds i)) → AreSegments n gs
 cover_segments nothing n low high good = tt
 cover_segments {a = a} (segment ds rest cut more) n low high good =
     let l = length-append ds rest in
@@ -74,27 +74,27 @@ cover_segments {a = a} (segment ds rest cut more) n low high good =
       cover_segments more n (omega arith) (omega arith) (λ i h. subst IsGood (get_or-append-add ds rest i _) (good (length ds + i) (omega arith))),
     )
 
-segments_joined : (n : ℕ) (gs hs : List Run) → AreSegments n gs → AreSegments n hs → AreSegments n (gs ++ hs)
+segments_joined : (n : ℕ) (gs hs : List DigitRun) → AreSegments n gs → AreSegments n hs → AreSegments n (gs ++ hs)
 segments_joined n [] hs g h = h
 segments_joined n (x ∷ gs) hs g h = (g.0, segments_joined n gs hs g.1 h)
 
 -- the segments of good runs from 00100 on
-pub record IsLow (n : ℕ) (r : Run) : Type 0 where
+pub record IsLow (n : ℕ) (r : DigitRun) : Type 0 where
   pub low : 100 ≤ r.from
   pub high : r.from + length r.digits ≤ n
   pub good : (i : ℕ) → i < length r.digits → IsGood (nth r.digits i)
 
-abbrev pub AreLow : ℕ → List Run → Type 0
+abbrev pub AreLow : ℕ → List DigitRun → Type 0
 AreLow n [] = Unit {0}
 AreLow n (r ∷ rs) = IsLow n r × AreLow n rs
 
-pub cut_segments : (n : ℕ) (rs : List Run) → AreLow n rs → AreSegments n (cut rs)
+pub cut_segments : (n : ℕ) (rs : List DigitRun) → AreLow n rs → AreSegments n (cut rs)
 unfolding cut_as
 cut_segments n [] all = tt
 cut_segments n (r ∷ rs) all = segments_joined n (cut_piece r) (cut rs) (cover_segments (cut_covers r) n all.0.low all.0.high all.0.good) (cut_segments n rs all.1)
 
 -- pieces behind the tables are such runs
-pub pieces_low : (n : ℕ) (rs : List Run) → All IsPiece rs → All IsBehind rs → All (IsBelow n) rs → AreLow n rs
+pub pieces_low : (n : ℕ) (rs : List DigitRun) → All IsPiece rs → All IsBehind rs → All (IsRunBelow n) rs → AreLow n rs
 pieces_low n [] each above under = tt
 pieces_low n (r ∷ rs) each above under =
     let p : IsPiece r = each 0 r (omega arith) in
@@ -104,7 +104,7 @@ pieces_low n (r ∷ rs) each above under =
     )
 
 -- nothing is declared below 00100
-pub nothing_low : (rs : List Run) → All (λ r. lowest_declared ≤ r.from) rs → (a : ℕ) → a < 100 → declared_digit rs a ≡ None
+pub nothing_low : (rs : List DigitRun) → All (λ r. lowest_declared ≤ r.from) rs → (a : ℕ) → a < 100 → declared_digit rs a ≡ None
 unfolding declared_digit
 nothing_low [] all a h = refl
 nothing_low (r ∷ rs) all a h =

@@ -1,7 +1,7 @@
 -- What the cards of a program are, and what they do, by the form of its deck.
 use Rattle.std.specs.Prelude.{ℕ, ◌≡◌, List, length, map}
 use Rattle.card_code.specs.declared.Card.{Card}
-use Rattle.sps_pass_two.specs.Image.{Run}
+use Rattle.sps_pass_two.specs.Image.{DigitRun}
 use Rattle.sps_pass_two.specs.declared.assembled.Assembled.{Assembled}
 use Rattle.deck_punch.specs.Deck.{deck, deck_steps}
 use Rattle.deck_punch.specs.Dense.{dense_deck, dense_steps}
@@ -11,7 +11,7 @@ use Rattle.loader_cards.specs.Loads.{Loads}
 use Rattle.card_columns.specs.Types.{card_bytes}
 
 -- the deck of an image and a start
-abbrev pub deck_in : DeckForm → List Run → ℕ → List (List ℕ)
+abbrev pub deck_in : DeckForm → List DigitRun → ℕ → List (List ℕ)
 deck_in SelfLoading image start = deck image start
 deck_in Dense image start = dense_deck image start
 

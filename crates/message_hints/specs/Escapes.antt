@@ -21,8 +21,8 @@ abbrev pub cell_text : ℕ → List ℕ
 cell_text b = if prints b then b ∷ [] else escape_text b
 
 -- the bytes of a line
-abbrev pub cells_text : List ℕ → List ℕ
-cells_text line = flat_map cell_text line
+abbrev pub escaped_cells : List ℕ → List ℕ
+escaped_cells line = flat_map cell_text line
 
 -- a character of a file's name: itself unless it is a control character
 abbrev pub character_text : ℕ → List ℕ
@@ -33,5 +33,5 @@ abbrev pub escaped_text : List ℕ → List ℕ
 escaped_text name = flat_map character_text (chars name)
 
 -- a number below 100 in two digits
-abbrev pub two_digits : ℕ → List ℕ
-two_digits n = (48 + n / 10 % 10) ∷ (48 + n % 10) ∷ []
+abbrev pub two_digit_number : ℕ → List ℕ
+two_digit_number n = (48 + n / 10 % 10) ∷ (48 + n % 10) ∷ []

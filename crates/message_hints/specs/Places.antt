@@ -1,12 +1,12 @@
 -- How far a statement stands off, as it is told.
 -- Source: this project's own.
 use Rattle.std.specs.Prelude.{ℕ, Bool, true, false, ◌==◌, List, [], ◌++◌, if◌then◌else◌, codes, decimal}
-use Rattle.message_hints.specs.declared.shift.Way.{Way}
-use Rattle.message_hints.specs.declared.shift.Way.TheVariants.{Left, Right}
+use Rattle.message_hints.specs.declared.shift.Direction.{Direction}
+use Rattle.message_hints.specs.declared.shift.Direction.TheVariants.{Left, Right}
 use Rattle.message_hints.specs.declared.shift.Shift.{Shift}
 
 -- which way
-abbrev pub way_text : Way → List ℕ
+abbrev pub way_text : Direction → List ℕ
 way_text Left = codes "left"
 way_text Right = codes "right"
 

@@ -3,9 +3,9 @@
 use Rattle.std.specs.Prelude.{ℕ, Bool, true, false, None, Some, List, [], ◌++◌, codes, decimal}
 use Rattle.command_line.specs.declared.words.Command.{Command}
 use Rattle.command_line.specs.declared.words.Command.TheVariants.{Assemble, Load, Run, Debug, Generate, Trial, Disk}
-use Rattle.message_hints.specs.declared.commands.Kind.{Kind}
-use Rattle.message_hints.specs.declared.commands.Kind.TheVariants.{Input, Output, Pack, Number, Form, Core}
-use Rattle.message_hints.specs.declared.commands.Setting.{Setting}
+use Rattle.message_hints.specs.declared.commands.ValueKind.{ValueKind}
+use Rattle.message_hints.specs.declared.commands.ValueKind.TheVariants.{Input, Output, Pack, Number, Form, Core}
+use Rattle.message_hints.specs.declared.commands.ToldOption.{ToldOption}
 use Rattle.message_hints.specs.declared.problems.Misuse.{Misuse}
 use Rattle.message_hints.specs.declared.problems.Misuse.TheVariants.{NoWords, NoCommand, Behind}
 use Rattle.message_hints.specs.declared.problems.Problem.{Problem}
@@ -21,7 +21,7 @@ use Rattle.message_hints.specs.Escapes.{escaped_text}
 use Rattle.message_hints.specs.Usage.{usage_text}
 
 -- what the value of an option has to be
-abbrev pub fit_text : Kind → List ℕ
+abbrev pub fit_text : ValueKind → List ℕ
 fit_text (Number least most) = codes "is no number; write one of " ++ decimal least ++ codes " to " ++ decimal most ++ codes ", in digits\n"
 fit_text Form = codes "the forms are self and dense\n"
 fit_text Core = codes "the sizes of core are 20000, 40000 and 60000\n"
@@ -30,7 +30,7 @@ fit_text Output = codes "is no name of a file\n"
 fit_text Pack = codes "is no name of a file\n"
 
 -- what stands for the standard input or output: the command, the option, and what its value has to be
-abbrev pub standard_of : List ℕ → List ℕ → Kind → List ℕ
+abbrev pub standard_of : List ℕ → List ℕ → ValueKind → List ℕ
 standard_of command option Input =
     codes "ibm1620: the standard input is /dev/stdin: cat FILE | ibm1620 " ++ command ++ codes " --" ++ option ++ codes " /dev/stdin ..\n"
 standard_of command option Output =
@@ -41,7 +41,7 @@ standard_of command option Form = []
 standard_of command option Core = []
 
 -- the same of an option
-abbrev pub standard_text : Command → Setting → List ℕ
+abbrev pub standard_text : Command → ToldOption → List ℕ
 standard_text command s = standard_of (command_word command) s.word.now s.kind
 
 -- a command, where it takes an option
@@ -67,7 +67,7 @@ stray_text command word (OfOthers takers) =
 stray_text command word Unknown = word ++ codes " is no option of " ++ command_word command ++ codes "; these are:\n"
 
 -- what is wrong with an option of a command, or with the word behind it, which is as it is shown
-abbrev pub flaw_text : Command → List ℕ → Setting → Flaw → List ℕ
+abbrev pub flaw_text : Command → List ℕ → ToldOption → Flaw → List ℕ
 flaw_text command word s Twice = codes "--" ++ s.word.now ++ codes " is given twice\n"
 flaw_text command word s NoValue =
     codes "--" ++ s.word.now ++ codes " has no value behind it: write --" ++ s.word.now ++ codes " " ++ s.value.now ++ codes "\n"

@@ -13,8 +13,8 @@ hint_or_none None = []
 hint_or_none (Some hint) = hint_text hint
 
 -- WHAT IS SHOWN OF A REFUSED STATEMENT: its picture, and the hints that there are
-abbrev pub refused_text : Refused → List ℕ
-refused_text refused =
+abbrev pub refusal_shown : Refused → List ℕ
+refusal_shown refused =
     picture_text refused.picture ++ hint_or_none refused.kind ++ hint_or_none refused.place ++ hint_or_none refused.line
     ++ hint_or_none refused.operands ++ hint_or_none refused.other
 

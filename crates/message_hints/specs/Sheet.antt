@@ -1,10 +1,10 @@
 -- A statement as its source has it, under a ruler of the coding sheet, with a mark under what breaks its rule.
 -- Source: SPS manual, coding sheet; the picture is this project's own.
 use Rattle.std.specs.Prelude.{ℕ, ◌≡◌, ◌-◌, min, max, nat_lt, Bool, true, false, Option, None, Some, List, [], ◌++◌, length, take, replicate, if◌then◌else◌, codes}
-use Rattle.message_hints.specs.declared.sheet.Columns.{Columns}
+use Rattle.message_hints.specs.declared.sheet.SheetColumns.{SheetColumns}
 use Rattle.message_hints.specs.declared.picture.Picture.{Picture}
 use Rattle.message_hints.specs.Columns.{width_in}
-use Rattle.message_hints.specs.Escapes.{cells_text}
+use Rattle.message_hints.specs.Escapes.{escaped_cells}
 
 -- what is shown of a line is its beginning
 pub record IsBeginning (shown line : List ℕ) : Type 0 where
@@ -56,10 +56,10 @@ more_text false = []
 
 -- the line
 abbrev pub line_text : List ℕ → Bool → List ℕ
-line_text shown is_cut = codes "ibm1620: " ++ cells_text shown ++ more_text is_cut ++ codes "\n"
+line_text shown is_cut = codes "ibm1620: " ++ escaped_cells shown ++ more_text is_cut ++ codes "\n"
 
 -- carets under the marked columns, as far as they are shown; nothing where none of them is
-abbrev pub mark_text : List ℕ → Option Columns → List ℕ
+abbrev pub mark_text : List ℕ → Option SheetColumns → List ℕ
 mark_text shown None = []
 mark_text shown (Some mark) =
     if nat_lt (length shown) mark.first then []

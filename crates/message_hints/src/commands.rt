@@ -6,7 +6,7 @@ use command_line::{COMMANDS, Command};
 
 // What the value behind an option has to be.
 #[derive(Clone, Copy)]
-pub(crate) enum Kind {
+pub(crate) enum ValueKind {
     // A file that is read.
     Input,
     // A file that is written.
@@ -22,98 +22,113 @@ pub(crate) enum Kind {
 }
 
 // An option of a command: its word behind the two hyphens, what stands for its value, what is said of it, and what its value has to be.
-pub(crate) type OptionRow = (&'static str, &'static str, &'static str, Kind);
+pub(crate) type OptionRow = (&'static str, &'static str, &'static str, ValueKind);
 
-const SOURCE: OptionRow = ("source", "FILE", "the source", Kind::Input);
+const SOURCE: OptionRow = ("source", "FILE", "the source", ValueKind::Input);
 
 const COMMANDS_FILE: OptionRow = (
     "commands",
     "FILE",
     "the debugger's commands, one on a line",
-    Kind::Input,
+    ValueKind::Input,
 );
 
-const DECK: OptionRow = ("deck", "FILE", "the cards of the deck", Kind::Input);
+const DECK: OptionRow = ("deck", "FILE", "the cards of the deck", ValueKind::Input);
 
-const DATA: OptionRow = ("data", "FILE", "the cards behind the deck", Kind::Input);
+const DATA: OptionRow = (
+    "data",
+    "FILE",
+    "the cards behind the deck",
+    ValueKind::Input,
+);
 
-const KEYS: OptionRow = ("keys", "FILE", "the lines of the keyboard", Kind::Input);
+const KEYS: OptionRow = (
+    "keys",
+    "FILE",
+    "the lines of the keyboard",
+    ValueKind::Input,
+);
 
 const SCRIPT: OptionRow = (
     "script",
     "FILE",
     "the operator's script; without it the operator does nothing",
-    Kind::Input,
+    ValueKind::Input,
 );
 
 const PACK: OptionRow = (
     "pack",
     "FILE",
     "the disk's pack, read and written; made if it is not there",
-    Kind::Pack,
+    ValueKind::Pack,
 );
 
 const PLACED_PACK: OptionRow = (
     "pack",
     "FILE",
     "takes the sectors; made if it is not there",
-    Kind::Pack,
+    ValueKind::Pack,
 );
 
 const OBJECT: OptionRow = (
     "object",
     "FILE",
     "gets the object deck; without it the deck is dropped",
-    Kind::Output,
+    ValueKind::Output,
 );
 
 const BOOTSTRAP: OptionRow = (
     "object",
     "FILE",
     "gets the bootstrap deck; without it the deck is dropped",
-    Kind::Output,
+    ValueKind::Output,
 );
 
 const IMAGE: OptionRow = (
     "image",
     "FILE",
     "gets the image; without it the image is dropped",
-    Kind::Output,
+    ValueKind::Output,
 );
 
 const LISTING: OptionRow = (
     "listing",
     "FILE",
     "gets the listing; without it the listing is dropped",
-    Kind::Output,
+    ValueKind::Output,
 );
 
 const PUNCHED: OptionRow = (
     "punched",
     "FILE",
     "gets the punched cards; without it they are dropped",
-    Kind::Output,
+    ValueKind::Output,
 );
 
-const TYPED: OptionRow = ("typed", "FILE", "gets what the machine types", Kind::Output);
+const TYPED: OptionRow = (
+    "typed",
+    "FILE",
+    "gets what the machine types",
+    ValueKind::Output,
+);
 
 const MADE: OptionRow = (
     "made",
     "FILE",
     "gets the source; without it the source is dropped",
-    Kind::Output,
+    ValueKind::Output,
 );
 
-const REPORT: OptionRow = ("report", "FILE", "gets the report line", Kind::Output);
+const REPORT: OptionRow = ("report", "FILE", "gets the report line", ValueKind::Output);
 
 const SESSION_REPORT: OptionRow = (
     "report",
     "FILE",
     "gets what the commands print, and the report line",
-    Kind::Output,
+    ValueKind::Output,
 );
 
-const ANY_LIMIT: Kind = Kind::Number {
+const ANY_LIMIT: ValueKind = ValueKind::Number {
     least: 0,
     most: 999_999_999_999_999,
 };
@@ -143,21 +158,21 @@ const CORE: OptionRow = (
     "core",
     "N",
     "core's positions: 20000, 40000 or 60000; 20000 without it",
-    Kind::Core,
+    ValueKind::Core,
 );
 
 const FORM: OptionRow = (
     "form",
     "FORM",
     "the form of the object deck, self or dense; self without it",
-    Kind::Form,
+    ValueKind::Form,
 );
 
 const STATEMENTS: OptionRow = (
     "statements",
     "N",
     "how many statements, 8 to 1600",
-    Kind::Number {
+    ValueKind::Number {
         least: 8,
         most: 1_600,
     },
@@ -167,7 +182,7 @@ const NUMBER: OptionRow = (
     "number",
     "K",
     "what it is made by, 0 to 999999",
-    Kind::Number {
+    ValueKind::Number {
         least: 0,
         most: 999_999,
     },
@@ -249,16 +264,16 @@ const PLACES: &str = "Assembles a source, writes its image to the pack, and punc
 
 // An option, as it is told what is wrong with it: its word, what stands for its value, and what that has to be.
 #[derive(Clone, Copy)]
-pub(crate) struct Setting {
+pub(crate) struct ToldOption {
     pub(crate) word: &'static str,
     pub(crate) value: &'static str,
-    pub(crate) kind: Kind,
+    pub(crate) kind: ValueKind,
 }
 
-impl Setting {
+impl ToldOption {
     // The option of a row.
-    pub(crate) fn of(row: &OptionRow) -> Setting {
-        Setting {
+    pub(crate) fn of(row: &OptionRow) -> ToldOption {
+        ToldOption {
             word: row.0,
             value: row.1,
             kind: row.3,
@@ -325,17 +340,17 @@ pub(crate) fn other_options(command: Command) -> &'static [OptionRow]
 }
 
 // The option of this word among some.
-fn setting_among(rows: &'static [OptionRow], word: &str) -> Option<Setting> {
+fn setting_among(rows: &'static [OptionRow], word: &str) -> Option<ToldOption> {
     for row in rows {
         if row.0 == word {
-            return Some(Setting::of(row));
+            return Some(ToldOption::of(row));
         }
     }
     None
 }
 
 // The option of a command with this word behind its hyphens.
-pub(crate) fn setting_of(command: Command, word: &str) -> Option<Setting> {
+pub(crate) fn setting_of(command: Command, word: &str) -> Option<ToldOption> {
     match setting_among(needed_options(command), word) {
         Some(setting) => Some(setting),
         None => setting_among(other_options(command), word),

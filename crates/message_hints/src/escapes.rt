@@ -3,7 +3,7 @@
 ghost use Rattle.std.specs.Prelude.{◌≡◌, ◌≤◌, Some};
 ghost use Rattle.std.specs.Fmt.{WritesOnOk};
 ghost use Rattle.message_hints.specs.Columns.{cell_width};
-ghost use Rattle.message_hints.specs.Escapes.{cell_text, cells_text, escape_text, escaped_text, prints, two_digits};
+ghost use Rattle.message_hints.specs.Escapes.{cell_text, escaped_cells, escape_text, escaped_text, prints, two_digit_number};
 
 use std::fmt;
 
@@ -88,7 +88,7 @@ impl fmt::Display for Cell {
 pub struct Cells<'s>(pub &'s [u8]);
 
 impl fmt::Display for Cells<'_> {
-    ghost output = { λ cells. Some (cells_text cells.0.now) };
+    ghost output = { λ cells. Some (escaped_cells cells.0.now) };
 
     fn fmt<W: fmt::Write>(&self, f: &mut fmt::Formatter<W>) -> fmt::Result {
         for byte in self.0 {
@@ -104,7 +104,7 @@ impl fmt::Display for Cells<'_> {
 pub(crate) struct TwoDigits(pub(crate) u8);
 
 impl fmt::Display for TwoDigits {
-    ghost output = { λ number. Some (two_digits number.0) };
+    ghost output = { λ number. Some (two_digit_number number.0) };
 
     fn fmt<W: fmt::Write>(&self, f: &mut fmt::Formatter<W>) -> fmt::Result {
         let tens = char::from(b'0' + self.0 / 10 % 10);

@@ -2,14 +2,14 @@
 ghost use Rattle.std.specs.Prelude.{◌≡◌, ◌≤◌, length, IfSome};
 ghost use Rattle.message_hints.specs.Marks.{blanks_before, field_of, written_columns, IsMarked};
 
-use crate::sheet::{Columns, LABEL, OPERANDS, OPERATION};
+use crate::sheet::{LABEL, OPERANDS, OPERATION, SheetColumns};
 use line_words::trimmed;
 use sps_ops::Rule;
 use sps_scan::{Shape, Statement, scan};
 
 // What a rule is about.
 #[derive(Clone, Copy)]
-enum Field {
+enum SheetField {
     // One column.
     Column,
     // What stands behind column 80.
@@ -23,15 +23,15 @@ enum Field {
 }
 
 // What this rule is about.
-fn field_of(rule: Rule) -> Field
+fn field_of(rule: Rule) -> SheetField
     ensures { result ≡ field_of rule }
 {
     match rule {
-        Rule::BadColumn => Field::Column,
-        Rule::LongCard => Field::End,
-        Rule::BadLabel | Rule::DuplicateLabel => Field::Label,
-        Rule::UnknownOperation => Field::Operation,
-        _ => Field::Part,
+        Rule::BadColumn => SheetField::Column,
+        Rule::LongCard => SheetField::End,
+        Rule::BadLabel | Rule::DuplicateLabel => SheetField::Label,
+        Rule::UnknownOperation => SheetField::Operation,
+        _ => SheetField::Part,
     }
 }
 
@@ -39,26 +39,26 @@ fn field_of(rule: Rule) -> Field
 ///
 /// `part` is the place, from 0, of the operand part that breaks the rule, and `line` the statement's line.
 /// Source: SPS manual, coding sheet; which columns are marked is this project's own.
-pub fn marked(rule: Rule, part: Option<u8>, line: &[u8]) -> Option<Columns>
+pub fn marked(rule: Rule, part: Option<u8>, line: &[u8]) -> Option<SheetColumns>
     ensures { IsMarked (field_of rule) part line.now result }
 {
     match field_of(rule) {
-        Field::Column => one_column(bad_column(line)?),
-        Field::End => Some(Columns {
+        SheetField::Column => one_column(bad_column(line)?),
+        SheetField::End => Some(SheetColumns {
             first: 81,
             last: line.len(),
         }),
-        Field::Label => written(LABEL.first, LABEL.of(line)),
-        Field::Operation => written(OPERATION.first, OPERATION.of(line)),
-        Field::Part => part_columns(&scan(line), part?),
+        SheetField::Label => written(LABEL.first, LABEL.of(line)),
+        SheetField::Operation => written(OPERATION.first, OPERATION.of(line)),
+        SheetField::Part => part_columns(&scan(line), part?),
     }
 }
 
 // A column alone.
-fn one_column(column: usize) -> Option<Columns>
+fn one_column(column: usize) -> Option<SheetColumns>
     ensures { IfSome result (λ columns. columns.first ≡ columns.last) }
 {
-    Some(Columns {
+    Some(SheetColumns {
         first: column,
         last: column,
     })
@@ -76,7 +76,7 @@ pub(crate) fn bad_column(line: &[u8]) -> Option<usize> {
 }
 
 // The columns of an operand part. Before it stand the earlier ones, each with a comma behind it.
-fn part_columns(s: &Statement<'_>, place: u8) -> Option<Columns>
+fn part_columns(s: &Statement<'_>, place: u8) -> Option<SheetColumns>
     ensures { IfSome result (λ columns. 16 ≤ columns.first) }
 {
     let place = usize::from(place);
@@ -89,7 +89,7 @@ fn part_columns(s: &Statement<'_>, place: u8) -> Option<Columns>
 }
 
 // The columns of a text without the blanks at its ends, where it begins in the column `first`.
-fn written(first: usize, text: &[u8]) -> Option<Columns>
+fn written(first: usize, text: &[u8]) -> Option<SheetColumns>
     ensures is { first ≤ 100 → length text.now ≤ 100 → result ≡ written_columns first text.now }
     ensures from { IfSome result (λ columns. first ≤ columns.first) }
 {
@@ -98,7 +98,7 @@ fn written(first: usize, text: &[u8]) -> Option<Columns>
         return None;
     }
     let first = first.saturating_add(blanks_before(text));
-    Some(Columns {
+    Some(SheetColumns {
         first,
         last: first.saturating_add(written - 1),
     })

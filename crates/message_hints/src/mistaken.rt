@@ -4,7 +4,7 @@ ghost use Rattle.std.specs.Prelude.{Some};
 ghost use Rattle.message_hints.specs.Mistakes.{confusion_text};
 
 use crate::escapes::Escaped;
-use crate::sheet::{Columns, OPERATION};
+use crate::sheet::{OPERATION, SheetColumns};
 use card_code::object_digit;
 use outside_io::Unit;
 use read_checks::BadCharacter;
@@ -18,7 +18,7 @@ const LAST_STATEMENT: u32 = 3;
 // The fewest digits that a deck's first card has in its first instruction.
 const FEWEST_DIGITS: usize = 8;
 
-const INSTRUCTION: Columns = Columns { first: 1, last: 12 };
+const INSTRUCTION: SheetColumns = SheetColumns { first: 1, last: 12 };
 
 /// What a file looks like that is given as the other.
 #[derive(Clone, Copy)]

@@ -1,5 +1,5 @@
 // The first word of the command line that does not fit, and why.
-use crate::commands::{Kind, Setting, is_of_others, needed_options, setting_of};
+use crate::commands::{ToldOption, ValueKind, is_of_others, needed_options, setting_of};
 use crate::problems::{Flaw, Misuse, Problem, Stray, Takers, Wrong};
 use command_line::{Command, command_of};
 use line_words::{number, number_in};
@@ -87,7 +87,7 @@ fn is_option(pair: &[String], option: &str) -> bool {
 }
 
 // The option of a word, or why it is none.
-fn option_of(command: Command, option: &str) -> Result<Setting, Stray> {
+fn option_of(command: Command, option: &str) -> Result<ToldOption, Stray> {
     let Some(word) = option.strip_prefix("--") else {
         return Err(without_hyphens(command, option));
     };
@@ -109,7 +109,7 @@ fn without_hyphens(command: Command, option: &str) -> Stray {
 // A word where an option is wanted is often the name of a file, of the first option that the command needs.
 fn no_hyphens(command: Command) -> Stray {
     match needed_options(command).first() {
-        Some(row) => Stray::NoHyphens(Setting::of(row)),
+        Some(row) => Stray::NoHyphens(ToldOption::of(row)),
         None => Stray::Unknown,
     }
 }
@@ -126,7 +126,7 @@ fn no_option(word: &str) -> Stray {
 }
 
 // Why this is no value for the option; none where it is one.
-fn flaw_of(setting: Setting, value: Option<&str>) -> Option<Flaw> {
+fn flaw_of(setting: ToldOption, value: Option<&str>) -> Option<Flaw> {
     let Some(value) = value else {
         return Some(Flaw::NoValue);
     };
@@ -142,24 +142,25 @@ fn flaw_of(setting: Setting, value: Option<&str>) -> Option<Flaw> {
 }
 
 // Why a value that does not begin with a hyphen does not fit; none where it does.
-fn unfit(kind: Kind, value: &str) -> Option<Flaw> {
+fn unfit(kind: ValueKind, value: &str) -> Option<Flaw> {
     match kind {
-        Kind::Number { least, most } if number_in(least, most, value.as_bytes()).is_some() => None,
-        Kind::Number { least, most } if number(value.as_bytes()).is_some() => {
+        ValueKind::Number { least, most } if number_in(least, most, value.as_bytes()).is_some() =>
+            None,
+        ValueKind::Number { least, most } if number(value.as_bytes()).is_some() => {
             Some(Flaw::OutOfRange { least, most })
         }
-        Kind::Number { .. } => Some(Flaw::Unfit),
-        Kind::Form if matches!(value, "self" | "dense") => None,
-        Kind::Core if matches!(value, "20000" | "40000" | "60000") => None,
-        Kind::Form | Kind::Core => Some(Flaw::Unfit),
-        Kind::Input | Kind::Output | Kind::Pack => None,
+        ValueKind::Number { .. } => Some(Flaw::Unfit),
+        ValueKind::Form if matches!(value, "self" | "dense") => None,
+        ValueKind::Core if matches!(value, "20000" | "40000" | "60000") => None,
+        ValueKind::Form | ValueKind::Core => Some(Flaw::Unfit),
+        ValueKind::Input | ValueKind::Output | ValueKind::Pack => None,
     }
 }
 
 // The first option that the command needs and the words have not.
-fn missing(command: Command, words: &[String]) -> Option<Setting> {
+fn missing(command: Command, words: &[String]) -> Option<ToldOption> {
     for row in needed_options(command) {
-        let setting = Setting::of(row);
+        let setting = ToldOption::of(row);
         if !is_there(words, setting) {
             return Some(setting);
         }
@@ -168,7 +169,7 @@ fn missing(command: Command, words: &[String]) -> Option<Setting> {
 }
 
 // Whether the words have this option.
-fn is_there(words: &[String], setting: Setting) -> bool {
+fn is_there(words: &[String], setting: ToldOption) -> bool {
     for pair in words.chunks(2) {
         if is_setting(pair, setting) {
             return true;
@@ -177,7 +178,7 @@ fn is_there(words: &[String], setting: Setting) -> bool {
     false
 }
 
-fn is_setting(pair: &[String], setting: Setting) -> bool {
+fn is_setting(pair: &[String], setting: ToldOption) -> bool {
     match pair.first() {
         Some(word) => word.as_str().strip_prefix("--") == Some(setting.word),
         None => false,

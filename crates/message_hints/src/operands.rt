@@ -1,6 +1,6 @@
 // What goes wrong in operands: a remark that runs into them, a name that is too long, a length out of its range.
 use crate::marks::bad_column;
-use crate::sheet::{Columns, OPERANDS};
+use crate::sheet::{OPERANDS, SheetColumns};
 use crate::slips::{LongName, Slip};
 use line_words::trimmed;
 use sps_ops::{Declarative, Operation, Rule, most_parts};
@@ -67,7 +67,7 @@ fn up_to_bad_column(line: &[u8]) -> Option<&[u8]> {
     if column < OPERANDS.first {
         return None;
     }
-    let front = Columns {
+    let front = SheetColumns {
         first: OPERANDS.first,
         last: column,
     }

@@ -4,8 +4,8 @@ ghost use Rattle.message_hints.specs.Sheet.{IsBeginning, end_name, end_ruler, li
 
 use crate::escapes::Cells;
 use crate::runs::{Blanks, Carets, Dots};
-use crate::sheet::{Columns, IDENTIFICATION, LABEL, OPERANDS, OPERATION, PAGE};
-use crate::shown::Shown;
+use crate::sheet::{IDENTIFICATION, LABEL, OPERANDS, OPERATION, PAGE, SheetColumns};
+use crate::shown::ShownStatement;
 use std::fmt;
 
 // The last column that the ruler has at least: so many are needed for the word "operands".
@@ -17,22 +17,22 @@ const LEAST_RULER: usize = 23;
 #[derive(Clone, Copy)]
 pub struct Picture<'s> {
     /// What is shown of the line.
-    pub shown: Shown<'s>,
+    pub shown: ShownStatement<'s>,
     /// Whether more of it stands behind that.
     pub is_cut: bool,
     /// The columns that are marked, where some are.
-    pub mark: Option<Columns>,
+    pub mark: Option<SheetColumns>,
 }
 
 impl<'s> Picture<'s> {
     /// The picture of a line with these columns marked. Blanks at the line's end are left out, unless they are marked.
     ///
     /// Source: this project's own.
-    pub fn new(line: &'s [u8], mark: Option<Columns>) -> Self
+    pub fn new(line: &'s [u8], mark: Option<SheetColumns>) -> Self
         ensures { IsBeginning result.shown.bytes.now line.now }
     {
         let line = without_blanks(line, mark);
-        let shown = Shown::new(line);
+        let shown = ShownStatement::new(line);
         Picture {
             shown,
             is_cut: shown.bytes.len() < line.len(),
@@ -42,7 +42,7 @@ impl<'s> Picture<'s> {
 }
 
 // The line without the blanks at its end, but with those that are marked.
-fn without_blanks(line: &[u8], mark: Option<Columns>) -> &[u8]
+fn without_blanks(line: &[u8], mark: Option<SheetColumns>) -> &[u8]
     ensures { IsBeginning result.now line.now }
 {
     let least = match mark {
@@ -59,13 +59,13 @@ impl fmt::Display for Picture<'_> {
 
     #[tactic(auto, unfolding(crate::specs::Sheet::picture_text))]
     fn fmt<W: fmt::Write>(&self, f: &mut fmt::Formatter<W>) -> fmt::Result {
-        let names = Names(self.shown);
+        let names = FieldNames(self.shown);
         let ruler = Ruler(self.shown);
-        let line = Line {
+        let line = PictureLine {
             shown: self.shown,
             is_cut: self.is_cut,
         };
-        let mark = Mark {
+        let mark = PictureMark {
             shown: self.shown,
             columns: self.mark,
         };
@@ -75,9 +75,9 @@ impl fmt::Display for Picture<'_> {
 
 // The names of the fields.
 #[derive(Clone, Copy)]
-struct Names<'s>(Shown<'s>);
+struct FieldNames<'s>(ShownStatement<'s>);
 
-impl fmt::Display for Names<'_> {
+impl fmt::Display for FieldNames<'_> {
     ghost output = { λ names. Some (names_text names.0.bytes.now) };
 
     fn fmt<W: fmt::Write>(&self, f: &mut fmt::Formatter<W>) -> fmt::Result {
@@ -94,7 +94,7 @@ impl fmt::Display for Names<'_> {
 
 // The name of the identification, where the line reaches it.
 #[derive(Clone, Copy)]
-struct EndName<'s>(Shown<'s>);
+struct EndName<'s>(ShownStatement<'s>);
 
 impl fmt::Display for EndName<'_> {
     ghost output = { λ end. Some (end_name end.0.bytes.now) };
@@ -111,7 +111,7 @@ impl fmt::Display for EndName<'_> {
 
 // The first column of each field.
 #[derive(Clone, Copy)]
-struct Ruler<'s>(Shown<'s>);
+struct Ruler<'s>(ShownStatement<'s>);
 
 impl fmt::Display for Ruler<'_> {
     ghost output = { λ ruler. Some (ruler_text ruler.0.bytes.now) };
@@ -127,13 +127,13 @@ impl fmt::Display for Ruler<'_> {
 
 // The columns behind the first one of the operands.
 #[derive(Clone, Copy)]
-struct OperandsRuler<'s>(Shown<'s>);
+struct OperandsRuler<'s>(ShownStatement<'s>);
 
 impl fmt::Display for OperandsRuler<'_> {
     ghost output = { λ ruler. Some (operands_ruler ruler.0.bytes.now) };
 
     fn fmt<W: fmt::Write>(&self, f: &mut fmt::Formatter<W>) -> fmt::Result {
-        let operands = Columns {
+        let operands = SheetColumns {
             first: OPERANDS.first,
             last: self.0.bytes.len().max(LEAST_RULER).min(OPERANDS.last),
         };
@@ -145,7 +145,7 @@ impl fmt::Display for OperandsRuler<'_> {
 
 // The first column of the identification, where the line reaches it.
 #[derive(Clone, Copy)]
-struct EndRuler<'s>(Shown<'s>);
+struct EndRuler<'s>(ShownStatement<'s>);
 
 impl fmt::Display for EndRuler<'_> {
     ghost output = { λ end. Some (end_ruler end.0.bytes.now) };
@@ -162,26 +162,26 @@ impl fmt::Display for EndRuler<'_> {
 
 // The line.
 #[derive(Clone, Copy)]
-struct Line<'s> {
-    shown: Shown<'s>,
+struct PictureLine<'s> {
+    shown: ShownStatement<'s>,
     is_cut: bool,
 }
 
-impl fmt::Display for Line<'_> {
+impl fmt::Display for PictureLine<'_> {
     ghost output = { λ line. Some (line_text line.shown.bytes.now line.is_cut) };
 
     fn fmt<W: fmt::Write>(&self, f: &mut fmt::Formatter<W>) -> fmt::Result {
         let cells = Cells(self.shown.bytes);
-        let more = More(self.is_cut);
+        let more = DotsBehind(self.is_cut);
         write!(f, "ibm1620: {cells}{more}\n")
     }
 }
 
 // Three dots behind a line that goes on.
 #[derive(Clone, Copy)]
-struct More(bool);
+struct DotsBehind(bool);
 
-impl fmt::Display for More {
+impl fmt::Display for DotsBehind {
     ghost output = { λ more. Some (more_text more.0) };
 
     fn fmt<W: fmt::Write>(&self, f: &mut fmt::Formatter<W>) -> fmt::Result {
@@ -191,12 +191,12 @@ impl fmt::Display for More {
 
 // The mark under some columns of a line. Nothing is marked where the mark lies behind what is shown.
 #[derive(Clone, Copy)]
-struct Mark<'s> {
-    shown: Shown<'s>,
-    columns: Option<Columns>,
+struct PictureMark<'s> {
+    shown: ShownStatement<'s>,
+    columns: Option<SheetColumns>,
 }
 
-impl fmt::Display for Mark<'_> {
+impl fmt::Display for PictureMark<'_> {
     ghost output = { λ mark. Some (mark_text mark.shown.bytes.now mark.columns) };
 
     fn fmt<W: fmt::Write>(&self, f: &mut fmt::Formatter<W>) -> fmt::Result {
@@ -207,13 +207,13 @@ impl fmt::Display for Mark<'_> {
             return Ok(());
         }
         let before = Blanks(
-            self.shown.width_of(Columns {
+            self.shown.width_of(SheetColumns {
                 first: 1,
                 last: mark.first.saturating_sub(1),
             }),
         );
         let under = Carets(
-            self.shown.width_of(Columns {
+            self.shown.width_of(SheetColumns {
                 first: mark.first,
                 last: mark.last.min(self.shown.bytes.len()),
             }),

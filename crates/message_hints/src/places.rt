@@ -1,6 +1,6 @@
 // Lines that stand a few columns too far to the left or to the right.
-use crate::sheet::{Columns, LABEL, OPERANDS, OPERATION};
-use crate::shift::{Shift, Way};
+use crate::sheet::{LABEL, OPERANDS, OPERATION, SheetColumns};
+use crate::shift::{Direction, Shift};
 use line_words::trimmed;
 use sps_ops::lookup;
 use sps_pass_one::is_label;
@@ -21,13 +21,13 @@ pub(crate) fn shift_of(line: &[u8]) -> Option<Shift> {
 // The same by so many columns alone.
 fn shift_by(line: &[u8], columns: usize) -> Option<Shift> {
     let (way, is_operation_alone) = if is_right(line, columns) {
-        (Way::Right, false)
+        (Direction::Right, false)
     } else if is_left(line, columns) {
-        (Way::Left, false)
+        (Direction::Left, false)
     } else if has_operation_right(line, columns) {
-        (Way::Right, true)
+        (Direction::Right, true)
     } else if has_operation_left(line, columns) {
-        (Way::Left, true)
+        (Direction::Left, true)
     } else {
         return None;
     };
@@ -44,7 +44,7 @@ fn is_right(line: &[u8], by: usize) -> bool {
     let last = LABEL.last.saturating_add(by);
     let before = between(LABEL.first, first, line);
     is_blank(before)
-        && is_label_or_blank(Columns { first, last }.of(line))
+        && is_label_or_blank(SheetColumns { first, last }.of(line))
         && begins_operation(line, last.saturating_add(1))
 }
 
@@ -79,13 +79,13 @@ fn has_operation_left(line: &[u8], by: usize) -> bool {
 // What stands from one column on, in front of another.
 fn between(first: usize, behind: usize, line: &[u8]) -> &[u8] {
     let last = behind.saturating_sub(1);
-    Columns { first, last }.of(line)
+    SheetColumns { first, last }.of(line)
 }
 
 // Whether an operation begins in this column.
 fn begins_operation(line: &[u8], first: usize) -> bool {
     let last = first.saturating_add(3);
-    let text = Columns { first, last }.of(line);
+    let text = SheetColumns { first, last }.of(line);
     match text.first() {
         Some(byte) => byte.is_ascii_alphanumeric() && lookup(text).is_some(),
         None => false,

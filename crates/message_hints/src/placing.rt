@@ -2,16 +2,16 @@
 use crate::hints::Hint;
 use crate::languages::absent_of;
 use crate::places::{early_operands, long_label, shift_of, star_column};
-use crate::sheet::{Columns, OPERATION};
+use crate::sheet::{OPERATION, SheetColumns};
 use crate::slips::LongName;
 use line_words::trimmed;
 use sps_ops::{Rule, lookup};
 use sps_pass_one::is_label;
 
 // Where label and operation stand in a line that begins five columns too far to the left.
-const LABEL_FROM_ONE: Columns = Columns { first: 1, last: 6 };
+const LABEL_FROM_ONE: SheetColumns = SheetColumns { first: 1, last: 6 };
 
-const OPERATION_FROM_ONE: Columns = Columns { first: 7, last: 10 };
+const OPERATION_FROM_ONE: SheetColumns = SheetColumns { first: 7, last: 10 };
 
 // The hint on a line that has no operation where it stands.
 pub(crate) fn hint_by_place<'s>(rule: Rule, line: &'s [u8]) -> Option<Hint<'s>> {

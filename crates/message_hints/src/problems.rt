@@ -4,7 +4,7 @@ ghost use Rattle.std.specs.Prelude.{Some};
 ghost use Rattle.message_hints.specs.Escapes.{escaped_text};
 ghost use Rattle.message_hints.specs.Problems.{fit_text, flaw_text, misuse_text, problem_text, standard_text, stray_text, taker_text, takers_text};
 
-use crate::commands::{Kind, Setting, word_of};
+use crate::commands::{ToldOption, ValueKind, word_of};
 use crate::escapes::Escaped;
 use crate::usage::Usage;
 use command_line::Command;
@@ -66,9 +66,9 @@ pub(crate) enum Wrong {
     // A word where an option is wanted is none of the command's.
     NoOption(Stray),
     // An option of the command has a flaw.
-    Flawed(Setting, Flaw),
+    Flawed(ToldOption, Flaw),
     // An option that the command needs is not there.
-    Missing(Setting),
+    Missing(ToldOption),
     // Nothing is found that does not fit.
     Unclear,
 }
@@ -77,7 +77,7 @@ pub(crate) enum Wrong {
 #[derive(Clone, Copy)]
 pub(crate) enum Stray {
     // It stands where an option is wanted, as this one, and has no hyphens.
-    NoHyphens(Setting),
+    NoHyphens(ToldOption),
     // It is one hyphen and the word of an option.
     OneHyphen,
     // An option and its value are one word, with `=` between them.
@@ -183,7 +183,7 @@ impl fmt::Display for StrayWord<'_> {
 struct FlawedOption<'w> {
     command: Command,
     word: &'w str,
-    setting: Setting,
+    setting: ToldOption,
     flaw: Flaw,
 }
 
@@ -228,20 +228,22 @@ impl fmt::Display for FlawedOption<'_> {
 
 // What the value of an option has to be.
 #[derive(Clone, Copy)]
-struct Fit(Kind);
+struct Fit(ValueKind);
 
 impl fmt::Display for Fit {
     ghost output = { λ fit. Some (fit_text fit.0) };
 
     fn fmt<W: fmt::Write>(&self, f: &mut fmt::Formatter<W>) -> fmt::Result {
         match self.0 {
-            Kind::Number { least, most } => write!(
+            ValueKind::Number { least, most } => write!(
                 f,
                 "is no number; write one of {least} to {most}, in digits\n"
             ),
-            Kind::Form => f.write_str("the forms are self and dense\n"),
-            Kind::Core => f.write_str("the sizes of core are 20000, 40000 and 60000\n"),
-            Kind::Input | Kind::Output | Kind::Pack => f.write_str("is no name of a file\n"),
+            ValueKind::Form => f.write_str("the forms are self and dense\n"),
+            ValueKind::Core => f.write_str("the sizes of core are 20000, 40000 and 60000\n"),
+            ValueKind::Input | ValueKind::Output | ValueKind::Pack => f.write_str(
+                "is no name of a file\n",
+            ),
         }
     }
 }
@@ -250,7 +252,7 @@ impl fmt::Display for Fit {
 #[derive(Clone, Copy)]
 struct Standard {
     command: Command,
-    setting: Setting,
+    setting: ToldOption,
 }
 
 impl fmt::Display for Standard {
@@ -260,16 +262,16 @@ impl fmt::Display for Standard {
         let command = word_of(self.command);
         let option = self.setting.word;
         match self.setting.kind {
-            Kind::Input => write!(
+            ValueKind::Input => write!(
                 f,
                 "ibm1620: the standard input is /dev/stdin: cat FILE | ibm1620 {command} --{option} /dev/stdin ..\n"
             ),
-            Kind::Output => write!(
+            ValueKind::Output => write!(
                 f,
                 "ibm1620: the standard output is /dev/stdout: ibm1620 {command} --{option} /dev/stdout .. | cat\n"
             ),
-            Kind::Pack => f.write_str("ibm1620: a pack has to be a file\n"),
-            Kind::Number { .. } | Kind::Form | Kind::Core => Ok(()),
+            ValueKind::Pack => f.write_str("ibm1620: a pack has to be a file\n"),
+            ValueKind::Number { .. } | ValueKind::Form | ValueKind::Core => Ok(()),
         }
     }
 }

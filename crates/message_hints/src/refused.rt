@@ -1,6 +1,6 @@
 // The statement that a source is refused for, as it stands there.
 ghost use Rattle.std.specs.Prelude.{Some};
-ghost use Rattle.message_hints.specs.Refusals.{hint_or_none, refused_text};
+ghost use Rattle.message_hints.specs.Refusals.{hint_or_none, refusal_shown};
 
 use crate::hints::Hint;
 use crate::picture::Picture;
@@ -26,7 +26,7 @@ pub struct Refused<'s> {
 }
 
 impl fmt::Display for Refused<'_> {
-    ghost output = { λ refused. Some (refused_text refused) };
+    ghost output = { λ refused. Some (refusal_shown refused) };
 
     fn fmt<W: fmt::Write>(&self, f: &mut fmt::Formatter<W>) -> fmt::Result {
         let picture = self.picture;

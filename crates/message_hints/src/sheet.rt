@@ -6,7 +6,7 @@ ghost use Rattle.message_hints.specs.Columns.{columns_in};
 ///
 /// Source: SPS manual, coding sheet.
 #[derive(Clone, Copy)]
-pub struct Columns {
+pub struct SheetColumns {
     /// The first one.
     pub first: usize,
     /// The last one.
@@ -14,26 +14,26 @@ pub struct Columns {
 }
 
 // The fields of the coding sheet.
-pub(crate) const PAGE: Columns = Columns { first: 1, last: 5 };
+pub(crate) const PAGE: SheetColumns = SheetColumns { first: 1, last: 5 };
 
-pub(crate) const LABEL: Columns = Columns { first: 6, last: 11 };
+pub(crate) const LABEL: SheetColumns = SheetColumns { first: 6, last: 11 };
 
-pub(crate) const OPERATION: Columns = Columns {
+pub(crate) const OPERATION: SheetColumns = SheetColumns {
     first: 12,
     last: 15,
 };
 
-pub(crate) const OPERANDS: Columns = Columns {
+pub(crate) const OPERANDS: SheetColumns = SheetColumns {
     first: 16,
     last: 75,
 };
 
-pub(crate) const IDENTIFICATION: Columns = Columns {
+pub(crate) const IDENTIFICATION: SheetColumns = SheetColumns {
     first: 76,
     last: 80,
 };
 
-impl Columns {
+impl SheetColumns {
     // What a line has in these columns.
     pub(crate) fn of(self, line: &[u8]) -> &[u8]
         ensures { result.now ≡ columns_in self.first self.last line.now }

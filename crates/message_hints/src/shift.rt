@@ -7,20 +7,20 @@ use std::fmt;
 
 /// Which way something stands off.
 #[derive(Clone, Copy)]
-pub enum Way {
+pub enum Direction {
     /// To the left.
     Left,
     /// To the right.
     Right,
 }
 
-impl fmt::Display for Way {
+impl fmt::Display for Direction {
     ghost output = { λ way. Some (way_text way) };
 
     fn fmt<W: fmt::Write>(&self, f: &mut fmt::Formatter<W>) -> fmt::Result {
         match self {
-            Way::Left => f.write_str("left"),
-            Way::Right => f.write_str("right"),
+            Direction::Left => f.write_str("left"),
+            Direction::Right => f.write_str("right"),
         }
     }
 }
@@ -31,7 +31,7 @@ pub struct Shift {
     /// By how many columns.
     pub columns: usize,
     /// Which way.
-    pub way: Way,
+    pub way: Direction,
     /// Whether the label stands in column 6, so that the operation alone stands off.
     pub is_operation_alone: bool,
 }

@@ -2,7 +2,7 @@
 ghost use Rattle.std.specs.Prelude.{◌≤◌, length};
 
 use crate::escapes::Cell;
-use crate::sheet::Columns;
+use crate::sheet::SheetColumns;
 
 // The most characters that are shown of a line.
 const WIDEST: usize = 100;
@@ -11,19 +11,19 @@ const WIDEST: usize = 100;
 ///
 /// Source: this project's own.
 #[derive(Clone, Copy)]
-pub struct Shown<'s> {
+pub struct ShownStatement<'s> {
     /// Its bytes.
     pub bytes: &'s [u8],
     pub ghost fits: { length bytes.now ≤ 100 },
 }
 
-impl<'s> Shown<'s> {
+impl<'s> ShownStatement<'s> {
     ghost use Rattle.std.specs.Prelude.{◌≡◌};
     ghost use Rattle.message_hints.specs.Columns.{width_in};
     ghost use Rattle.message_hints.specs.Sheet.{IsBeginning};
 
     // As much of the line as fits.
-    pub(crate) fn new(line: &'s [u8]) -> Shown<'s>
+    pub(crate) fn new(line: &'s [u8]) -> ShownStatement<'s>
         ensures { IsBeginning result.bytes.now line.now }
     {
         let line = &line[..line.len().min(WIDEST)];
@@ -31,16 +31,16 @@ impl<'s> Shown<'s> {
         for place in 0..line.len() {
             width = width.saturating_add(Cell(line[place]).width());
             if width > WIDEST {
-                return Shown {
+                return ShownStatement {
                     bytes: &line[..place],
                 };
             }
         }
-        Shown { bytes: line }
+        ShownStatement { bytes: line }
     }
 
     // How many characters some columns take; one for a column that is not there.
-    pub(crate) fn width_of(&self, columns: Columns) -> usize
+    pub(crate) fn width_of(&self, columns: SheetColumns) -> usize
         requires { columns.last ≤ 100 }
         ensures { result ≡ width_in columns.first columns.last self.now.bytes.now }
     {

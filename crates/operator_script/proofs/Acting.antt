@@ -8,7 +8,7 @@ use Rattle.cpu_step.specs.declared.machine.Mode.{Mode}
 use Rattle.cpu_step.specs.declared.machine.Mode.TheVariants as mode
 use Rattle.cpu_step.specs.State.{State}
 use Rattle.cpu_step.specs.Machine.{state_with, Makes, is_faulted}
-use Rattle.cpu_step.proofs.Shown.{some_state, some_shown, frames_same, settles}
+use Rattle.cpu_step.proofs.ShownStates.{some_state, some_shown, frames_same, settles}
 use Rattle.operator_script.specs.declared.script.Action.TheVariants as action
 use Rattle.operator_script.specs.Turn.{state_after_action, mode_at_start}
 

@@ -9,9 +9,9 @@ use Rattle.cpu_step.specs.declared.machine.Mode.TheVariants as mode
 use Rattle.cpu_step.specs.State.{State}
 use Rattle.cpu_step.specs.Step.{step, partial_step}
 use Rattle.cpu_step.specs.Load.{load_cut}
-use Rattle.cpu_step.specs.Machine.{Makes, Breaks, is_faulted, is_running}
-use Rattle.cpu_step.proofs.Shown.{some_state, some_shown}
-use Rattle.cpu_step.proofs.Exact.{Sound}
+use Rattle.cpu_step.specs.Machine.{Makes, StopsShort, is_faulted, is_running}
+use Rattle.cpu_step.proofs.ShownStates.{some_state, some_shown}
+use Rattle.cpu_step.proofs.ExactCards.{Sound}
 use Rattle.operator_script.specs.declared.script.Action.{Action}
 use Rattle.operator_script.specs.declared.turns.Ending.{Ending}
 use Rattle.operator_script.specs.declared.turns.Ending.TheVariants as ending
@@ -19,7 +19,7 @@ use Rattle.operator_script.specs.declared.turns.TurnEnd.{TurnEnd}
 use Rattle.operator_script.specs.declared.turns.TurnEnd.TheVariants as end
 use Rattle.operator_script.specs.Scripts.{lines_left}
 use Rattle.operator_script.specs.Turn.{RunPlace, Acted, Ended, turn, state_after_action, place_after_action, place_after_step, can_go, due_action, ending_at, in_step, in_load}
-use Rattle.operator_script.specs.Run.{RunState, StandsAt, moment_at, Rests, BreaksTurn, BreaksLoad, Turns, StepsBy, Acts}
+use Rattle.operator_script.specs.Run.{RunState, StandsAt, moment_at, Rests, BreaksTurn, BreaksLoad, Turns, StepsBy, ActsAsOperator}
 use Rattle.operator_script.proofs.ByEnding.{says_ended}
 use Rattle.operator_script.proofs.Turning.{turn_acts, turn_steps, turn_full, turn_still, turn_over, room_for_one, counts_same, counts_differ}
 
@@ -119,7 +119,7 @@ module _ (m limit : ℕ) (old : RunState m) (before : Seen) where
 
     -- a step is cut short
     pub breaks_stepped : can_go old.machine.mode ≡ true → NoneDue → is_running old.machine.mode ≡ true → old.steps ≤ limit → (old.steps ≡ limit → ⊥) → new.steps ≡ old.steps + 1 → lines_left new.script ≡ lines_left old.script
-        → Breaks m partial_step old.machine new.machine before after → Turns m limit (moment_at m old before) (moment_at m new after) (end.Ended ending.Failed)
+        → StopsShort m partial_step old.machine new.machine before after → Turns m limit (moment_at m old before) (moment_at m new after) (end.Ended ending.Failed)
     breaks_stepped go due running within below steps script broke =
         let room = room_for_one old.steps limit (counts_differ old.steps limit below) within in
         let is : broke.makes.state.mode ≡ old.machine.mode = ap (λ (x : State). x.mode) broke.makes.shown.is in
@@ -168,7 +168,7 @@ module _ (m limit : ℕ) (old : RunState m) (before : Seen) where
           }
 
       -- the front line acts
-      pub acts_turn : (r : TurnEnd) → new.steps ≡ old.steps → lines_left new.script ≡ drop 1 (lines_left old.script) → Acts m a old.machine new.machine before after r
+      pub acts_turn : (r : TurnEnd) → new.steps ≡ old.steps → lines_left new.script ≡ drop 1 (lines_left old.script) → ActsAsOperator m a old.machine new.machine before after r
           → Turns m limit (moment_at m old before) (moment_at m new after) r
       acts_turn end.Acted steps script acts = moves_acted steps script acts.0 acts.1
       acts_turn end.Stepped steps script acts = absurd acts
@@ -176,7 +176,7 @@ module _ (m limit : ℕ) (old : RunState m) (before : Seen) where
       acts_turn (end.Ended how) steps script acts = absurd acts
 
 -- no action is a step
-pub acts_stepped : (m : ℕ) (a : Action) (old new : Machine m) (before after : Seen) (r : TurnEnd) → Acts m a old new before after r → StepsBy m r old new before after
+pub acts_stepped : (m : ℕ) (a : Action) (old new : Machine m) (before after : Seen) (r : TurnEnd) → ActsAsOperator m a old new before after r → StepsBy m r old new before after
 acts_stepped m a old new before after end.Acted acts = tt
 acts_stepped m a old new before after end.Stepped acts = absurd acts
 acts_stepped m a old new before after (end.Ended how) acts = tt

@@ -6,8 +6,8 @@ use Rattle.outside_io.specs.World.{World, Seen}
 use Rattle.outside_io.specs.Frame.{Tells}
 use Rattle.cpu_step.specs.State.{State}
 use Rattle.cpu_step.specs.Machine.{state_of, Frames, is_faulted}
-use Rattle.cpu_step.proofs.Shown.{frames_same}
-use Rattle.cpu_step.proofs.Exact.{state_told, states_told, frames_both}
+use Rattle.cpu_step.proofs.ShownStates.{frames_same}
+use Rattle.cpu_step.proofs.ExactCards.{state_told, states_told, frames_both}
 use Rattle.operator_script.specs.declared.script.ScriptLine.{ScriptLine}
 use Rattle.operator_script.specs.declared.turns.Ending.{Ending}
 use Rattle.operator_script.specs.declared.turns.TurnEnd.{TurnEnd}

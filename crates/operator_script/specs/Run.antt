@@ -5,7 +5,7 @@ use Rattle.outside_io.specs.World.{World, Seen, Rose}
 use Rattle.cpu_step.specs.declared.machine.Machine.{Machine}
 use Rattle.cpu_step.specs.declared.machine.Mode.{Mode}
 use Rattle.cpu_step.specs.declared.machine.Mode.TheVariants as mode
-use Rattle.cpu_step.specs.Machine.{is_faulted, state_of, Shows, Frames, Makes, Breaks}
+use Rattle.cpu_step.specs.Machine.{is_faulted, state_of, Shows, Frames, Makes, StopsShort}
 use Rattle.cpu_step.specs.State.{State}
 use Rattle.cpu_step.specs.Step.{step}
 use Rattle.cpu_step.specs.Load.{load_cut}
@@ -205,11 +205,11 @@ IsStepNext limit mode steps lines answer =
 -- the operator acted, or the host failed in the Load key
 pub record BreaksLoad (m : ℕ) (what : Action) (old new : Machine m) (before after : Seen) : Type 0 where
   pub is : what ≡ action.Load
-  pub breaks : Breaks m load_cut old new before after
+  pub breaks : StopsShort m load_cut old new before after
 
-abbrev pub Acts : (m : ℕ) → Action → Machine m → Machine m → Seen → Seen → TurnEnd → Type 0
-Acts m what old new before after end.Acted =
+abbrev pub ActsAsOperator : (m : ℕ) → Action → Machine m → Machine m → Seen → Seen → TurnEnd → Type 0
+ActsAsOperator m what old new before after end.Acted =
     Makes m (run.state_after_action what) old new before after × (is_faulted new.mode ≡ false)
-Acts m what old new before after end.Stepped = ⊥
-Acts m what old new before after (end.Ended ending.Failed) = BreaksLoad m what old new before after
-Acts m what old new before after (end.Ended how) = ⊥
+ActsAsOperator m what old new before after end.Stepped = ⊥
+ActsAsOperator m what old new before after (end.Ended ending.Failed) = BreaksLoad m what old new before after
+ActsAsOperator m what old new before after (end.Ended how) = ⊥

@@ -2,7 +2,7 @@
 use Rattle.std.specs.Prelude.{ℕ, Bool, List, [], ◌∷◌, codes, bytes_eq, if◌then◌else◌, Option, None, option_map, option_and_then, Result}
 use Rattle.line_words.specs.Words.{words_of, number, number_in}
 use Rattle.line_words.specs.Arguments.{alone, number_below, one_of, one_word, two_words}
-use Rattle.line_words.specs.Lines.{lines_read}
+use Rattle.line_words.specs.Lines.{items_of_lines}
 use Rattle.operator_script.specs.declared.script.Due.{Due}
 use Rattle.operator_script.specs.declared.script.Due.TheVariants as due
 use Rattle.operator_script.specs.declared.script.Action.{Action}
@@ -10,8 +10,8 @@ use Rattle.operator_script.specs.declared.script.Action.TheVariants as action
 use Rattle.operator_script.specs.declared.script.ScriptLine.{ScriptLine}
 
 -- STOP, PROGRAM: whether a check switch is turned to STOP
-abbrev pub stops_of : List ℕ → Option Bool
-stops_of word = one_of (codes "STOP") (codes "PROGRAM") word
+abbrev pub stop_word : List ℕ → Option Bool
+stop_word word = one_of (codes "STOP") (codes "PROGRAM") word
 
 -- ON, OFF: program switch k is turned so
 abbrev pub switch_to : List ℕ → ℕ → Option Action
@@ -35,8 +35,8 @@ action_with positions word behind =
     if bytes_eq word (codes "START") then alone action.Start behind
     else if bytes_eq word (codes "LOAD") then alone action.Load behind
     else if bytes_eq word (codes "SWITCH") then option_and_then switch_of (two_words behind)
-    else if bytes_eq word (codes "OVERFLOW") then option_map (λ stops. action.Overflow stops) (option_and_then stops_of (one_word behind))
-    else if bytes_eq word (codes "IO") then option_map (λ stops. action.InOut stops) (option_and_then stops_of (one_word behind))
+    else if bytes_eq word (codes "OVERFLOW") then option_map (λ stops. action.Overflow stops) (option_and_then stop_word (one_word behind))
+    else if bytes_eq word (codes "IO") then option_map (λ stops. action.InOut stops) (option_and_then stop_word (one_word behind))
     else if bytes_eq word (codes "FLIP") then option_and_then (flip_of positions) (two_words behind)
     else None
 
@@ -53,15 +53,15 @@ abbrev pub line_at : ℕ → ℕ → List (List ℕ) → Option ScriptLine
 line_at positions count ws = option_map (line_with (due.At count)) (action_of positions ws)
 
 -- AT n action
-abbrev pub at_line : ℕ → List (List ℕ) → Option ScriptLine
-at_line positions [] = None
-at_line positions (w ∷ ws) = option_and_then (λ count. line_at positions count ws) (number w)
+abbrev pub line_at_count : ℕ → List (List ℕ) → Option ScriptLine
+line_at_count positions [] = None
+line_at_count positions (w ∷ ws) = option_and_then (λ count. line_at positions count ws) (number w)
 
 -- the line of some words: AT n action, or HALT action
 abbrev pub line_of_words : ℕ → List (List ℕ) → Option ScriptLine
 line_of_words positions [] = None
 line_of_words positions (w ∷ ws) =
-    if bytes_eq w (codes "AT") then at_line positions ws
+    if bytes_eq w (codes "AT") then line_at_count positions ws
     else if bytes_eq w (codes "HALT") then option_map (line_with due.Halt) (action_of positions ws)
     else None
 
@@ -72,4 +72,4 @@ line_of positions text = line_of_words positions (words_of text)
 -- the script that some bytes are, over a core of so many positions; else the number of the first bad line, all lines
 -- being counted from 1
 unfoldable pub script_of : ℕ → List ℕ → Result (List ScriptLine) ℕ
-script_of positions bytes = lines_read (line_of positions) bytes
+script_of positions bytes = items_of_lines (line_of positions) bytes

@@ -36,12 +36,12 @@ abbrev pub IsLine : ℕ → ScriptLine → Type 0
 IsLine positions line = IsDue line.due × IsAction positions line.action
 
 -- the reading of a script: the lines that the bytes are, or their first bad line, or no memory
-abbrev pub Reads : ℕ → List ℕ → Result Script ScriptFault → Type 0
-Reads positions bytes (Ok script) = script_of positions bytes ≡ Ok (lines_left script)
-Reads positions bytes (Err (fault.BadLine line)) = script_of positions bytes ≡ Err line
-Reads positions bytes (Err fault.Memory) = ⊤
+abbrev pub ReadsAsScript : ℕ → List ℕ → Result Script ScriptFault → Type 0
+ReadsAsScript positions bytes (Ok script) = script_of positions bytes ≡ Ok (lines_left script)
+ReadsAsScript positions bytes (Err (fault.BadLine line)) = script_of positions bytes ≡ Err line
+ReadsAsScript positions bytes (Err fault.Memory) = ⊤
 
 -- why a script was not read, by why its lines were not
-abbrev pub fault_of : LineFault → ScriptFault
-fault_of (lines.BadLine line) = fault.BadLine line
-fault_of lines.Memory = fault.Memory
+abbrev pub script_fault_of : LineFault → ScriptFault
+script_fault_of (lines.BadLine line) = fault.BadLine line
+script_fault_of lines.Memory = fault.Memory

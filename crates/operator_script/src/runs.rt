@@ -7,7 +7,7 @@ ghost use Rattle.operator_script.specs.Run.{BreaksFrom, GoesOn, IsQuiet, IsReady
 ghost use Rattle.operator_script.specs.Turn.{due_action};
 
 use crate::script::Script;
-use crate::turns::{Ending, TurnEnd, act_by_script, can_go, ending_in, is_due, quiet_steps};
+use crate::turns::{Ending, TurnEnd, act_by_script, can_go, ending_at, is_front_due, quiet_steps};
 use cpu_step::{Machine, Turned};
 use outside_io::Host;
 
@@ -46,13 +46,13 @@ impl<const M: u32> Run<'_, M> {
         ensures stepped { StepsBy M result self.old.machine.now self.new.machine.now (H.seen host.old) (H.seen host.new) }
     {
         if !can_go(self.machine.mode) {
-            return TurnEnd::Ended(ending_in(self.machine.mode, self.machine.regs.ir));
+            return TurnEnd::Ended(ending_at(self.machine.mode, self.machine.regs.ir));
         }
-        if is_due(self.script, self.machine.mode, self.steps) {
+        if is_front_due(self.script, self.machine.mode, self.steps) {
             return act_by_script(self.machine, self.script, self.steps, host);
         }
         if !self.machine.is_running() {
-            return TurnEnd::Ended(ending_in(self.machine.mode, self.machine.regs.ir));
+            return TurnEnd::Ended(ending_at(self.machine.mode, self.machine.regs.ir));
         }
         if self.steps == self.limit {
             return TurnEnd::Ended(Ending::Limit);
@@ -158,6 +158,6 @@ impl<const M: u32> Run<'_, M> {
         if self.steps == self.limit {
             return false;
         }
-        !is_due(self.script, self.machine.mode, self.steps)
+        !is_front_due(self.script, self.machine.mode, self.steps)
     }
 }

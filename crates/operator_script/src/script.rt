@@ -1,7 +1,7 @@
 // The operator's script.
 ghost use Rattle.std.specs.Prelude.{◌≡◌, All, IfOk, IfSome};
-ghost use Rattle.operator_script.specs.Scripts.{Reads, IsAction, IsLine, fault_of, lines_left};
-ghost use Rattle.operator_script.specs.Script.{action_of, at_line, line_of};
+ghost use Rattle.operator_script.specs.Scripts.{ReadsAsScript, IsAction, IsLine, script_fault_of, lines_left};
+ghost use Rattle.operator_script.specs.Script.{action_of, line_at_count, line_of};
 ghost use Rattle.line_words.specs.Words.{words_of};
 ghost use Rattle.operator_script.specs.declared.script.ScriptFault.TheVariants.{Memory};
 
@@ -93,7 +93,7 @@ impl From<AllocError> for ScriptFault {
 }
 
 impl From<LineFault> for ScriptFault {
-    ghost from_gives = { λ fault e. e ≡ fault_of fault };
+    ghost from_gives = { λ fault e. e ≡ script_fault_of fault };
 
     fn from(fault: LineFault) -> Self {
         match fault {
@@ -145,7 +145,7 @@ impl Script {
     /// the lines. An address outside core and a bit outside the cell are outside the grammar.
     /// Source: this project's own.
     pub fn read(alloc: Global, bytes: &[u8], positions: u32) -> Result<Script, ScriptFault>
-        ensures lines { Reads positions bytes.now result }
+        ensures lines { ReadsAsScript positions bytes.now result }
         ensures fits { IfOk result (λ script. All (IsLine positions) (lines_left script)) }
     {
         let lines = read_lines(alloc, &ScriptGrammar { positions }, bytes)?;
@@ -169,7 +169,7 @@ fn line_of(text: &[u8], positions: u32) -> Option<ScriptLine>
 {
     let (word, behind) = cut_word(text);
     if word == b"AT".as_slice() {
-        at_line(behind?, positions)
+        line_at_count(behind?, positions)
     } else if word == b"HALT".as_slice() {
         let action = action_of(behind?, positions)?;
         Some(ScriptLine {
@@ -182,8 +182,8 @@ fn line_of(text: &[u8], positions: u32) -> Option<ScriptLine>
 }
 
 // What stands behind `AT`: `n action`.
-fn at_line(text: &[u8], positions: u32) -> Option<ScriptLine>
-    ensures value { result ≡ at_line positions (words_of text.now) }
+fn line_at_count(text: &[u8], positions: u32) -> Option<ScriptLine>
+    ensures value { result ≡ line_at_count positions (words_of text.now) }
     ensures fits { IfSome result (IsLine positions) }
 {
     let (word, behind) = cut_word(text);

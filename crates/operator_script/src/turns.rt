@@ -5,7 +5,7 @@ ghost use Rattle.digit_core.specs.Size.{size};
 ghost use Rattle.cpu_step.specs.Machine.{is_faulted};
 ghost use Rattle.operator_script.specs.Scripts.{IsLine, IsAction, HasFront, lines_left};
 ghost use Rattle.operator_script.specs.Turn.{ending_at, can_go, mode_at_start, is_due, due_action};
-ghost use Rattle.operator_script.specs.Run.{IsQuiet, Turns, Runs, Acts, StepsBy, moment};
+ghost use Rattle.operator_script.specs.Run.{IsQuiet, Turns, Runs, ActsAsOperator, StepsBy, moment};
 
 use crate::runs::Run;
 use crate::script::{Action, Due, Script};
@@ -149,7 +149,7 @@ pub(crate) fn can_go(mode: Mode) -> bool
 }
 
 // How a run ends that stands in this mode.
-pub(crate) fn ending_in(mode: Mode, ir: u32) -> Ending
+pub(crate) fn ending_at(mode: Mode, ir: u32) -> Ending
     ensures { result ≡ ending_at mode ir }
 {
     match mode {
@@ -164,7 +164,7 @@ pub(crate) fn ending_in(mode: Mode, ir: u32) -> Ending
 }
 
 // Whether something is due.
-fn is_now(due: Due, mode: Mode, steps: u64) -> bool
+fn is_due(due: Due, mode: Mode, steps: u64) -> bool
     ensures { result ≡ is_due due steps mode }
 {
     match due {
@@ -174,11 +174,11 @@ fn is_now(due: Due, mode: Mode, steps: u64) -> bool
 }
 
 // Whether the front line is due.
-pub(crate) fn is_due(script: &Script, mode: Mode, steps: u64) -> bool
+pub(crate) fn is_front_due(script: &Script, mode: Mode, steps: u64) -> bool
     ensures { result ≡ is_some (due_action mode steps (lines_left script.now)) }
 {
     match script.lines.get(script.front) {
-        Some(line) => is_now(line.due, mode, steps),
+        Some(line) => is_due(line.due, mode, steps),
         None => false,
     }
 }
@@ -203,7 +203,7 @@ fn due_action(script: &Script, mode: Mode, steps: u64) -> Option<Action>
     ensures front { (a : Action) → result ≡ Some a → HasFront script.now }
 {
     let line = script.lines.get(script.front)?;
-    if is_now(line.due, mode, steps) {
+    if is_due(line.due, mode, steps) {
         Some(line.action)
     } else {
         None
@@ -237,7 +237,7 @@ pub(crate) fn act_by_script<const M: u32, H: Host>(
 }
 
 // The mode behind the Start key.
-fn started(mode: Mode) -> Mode
+fn mode_at_start(mode: Mode) -> Mode
     ensures { result ≡ mode_at_start mode }
 {
     match mode {
@@ -250,10 +250,10 @@ fn started(mode: Mode) -> Mode
 fn act<const M: u32, H: Host>(machine: &mut Machine<M>, action: Action, host: &mut H) -> TurnEnd
     requires action { IsAction (size M) action }
     requires mode { is_faulted machine.old.mode ≡ false }
-    ensures { Acts M action machine.old machine.new (H.seen host.old) (H.seen host.new) result }
+    ensures { ActsAsOperator M action machine.old machine.new (H.seen host.old) (H.seen host.new) result }
 {
     match action {
-        Action::Start => machine.mode = started(machine.mode),
+        Action::Start => machine.mode = mode_at_start(machine.mode),
         Action::Load => match machine.load_key(host) {
             Turned::Failed => return TurnEnd::Ended(Ending::Failed),
             _ => {}

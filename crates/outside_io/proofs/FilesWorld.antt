@@ -9,11 +9,11 @@ use Rattle.outside_io.specs.declared.in_memory.files.NamedFile.{NamedFile}
 use Rattle.outside_io.specs.declared.in_memory.files.Files.{Files}
 use Rattle.outside_io.specs.World.{Asked, one_reading, asked_after, place, same_unit, is_input, is_output, is_pack, at, sectors_after_binding, empty_pack, world_after_binding, world_after_take, world_after_put, BeginsWith, with_file, no_files}
 use Rattle.outside_io.specs.Names.{name_of, HasNoName}
-use Rattle.outside_io.specs.Files.{bytes_at, bytes_named, bytes_of, rest_of, sectors_from, pack_of, world_of, asked_of, Gives, Opens, IsIdle, IsUnasked, AddsFile, SameFiles}
-use Rattle.outside_io.specs.declared.in_memory.texts.Texts as texts
+use Rattle.outside_io.specs.Files.{bytes_at, bytes_named, file_bytes, rest_of, sectors_from, pack_of, world_of, asked_of, Gives, Opens, IsIdle, IsUnasked, AddsFile, SameFiles}
+use Rattle.outside_io.specs.declared.in_memory.texts.OutputTexts as texts
 use Rattle.outside_io.specs.Texts.{unit_text, Clears, Grows}
 use Rattle.outside_io.proofs.Worlds.{Texts}
-use Rattle.outside_io.proofs.Untold.{same_world}
+use Rattle.outside_io.proofs.UntoldHosts.{same_world}
 
 -- the sectors that a host tells, where it tells them
 abbrev pub Sectors : Type 0
@@ -60,13 +60,13 @@ lefts u v false bytes texts = refl
 -- a file that is opened is bound in the world
 pub opens_world : (old new : Files) (u : unit.Unit) (name : List ℕ) (written after : Texts) (sectors now : Sectors) → Opens old new u name
     → after ≡ (if is_output u then at u (option_map (λ t. [])) written else written)
-    → now ≡ (if is_pack u then sectors_after_binding (Some (bytes_of old name)) sectors else sectors)
+    → now ≡ (if is_pack u then sectors_after_binding (Some (file_bytes old name)) sectors else sectors)
     → world_of new after now ≡ world_after_binding u name (world_of old written sectors)
 opens_world old new u name written after sectors now opens texts pack = same_world (world_of new after now) (world_after_binding u name (world_of old written sectors))
     (ap (λ (f : List ℕ → List ℕ). λ (other : List ℕ). Some (f other)) opens.bytes)
     (fun_ext opens.flags)
     (fun_ext opens.names)
-    (fun_ext (λ v. ap (λ (t : List ℕ). Some t) (opens.left v) ∙ opens_some (same_unit u v) (is_input u) (bytes_of old name) (rest_of old v) ∙ sym (lefts u v (is_input u) (Some (bytes_of old name)) (λ w. Some (rest_of old w)))))
+    (fun_ext (λ v. ap (λ (t : List ℕ). Some t) (opens.left v) ∙ opens_some (same_unit u v) (is_input u) (file_bytes old name) (rest_of old v) ∙ sym (lefts u v (is_input u) (Some (file_bytes old name)) (λ w. Some (rest_of old w)))))
     texts
     pack
     (ap (λ (asked : unit.Unit → Asked). λ v. Some (asked v)) opens.asked)
@@ -79,7 +79,7 @@ added_some false s t = refl
 pub adds_world : (old new : Files) (name bytes : List ℕ) (written : Texts) (before after : Sectors) → after ≡ before → AddsFile old new name bytes
     → world_of new written after ≡ with_file name bytes (world_of old written before)
 adds_world old new name bytes written before after sectors adds = same_world (world_of new written after) (with_file name bytes (world_of old written before))
-    (fun_ext (λ other. ap (λ (t : List ℕ). Some t) (adds.added other) ∙ added_some (bytes_eq name other) bytes (bytes_of old other)))
+    (fun_ext (λ other. ap (λ (t : List ℕ). Some t) (adds.added other) ∙ added_some (bytes_eq name other) bytes (file_bytes old other)))
     adds.flags
     adds.names
     (fun_ext (λ v. ap (λ (t : List ℕ). Some t) (adds.left v)))
@@ -131,7 +131,7 @@ cleared_some true t = refl
 cleared_some false t = refl
 
 -- an output whose text is emptied
-pub cleared_texts : (old new : texts.Texts) (u : unit.Unit) → true ≡ is_output u → Clears old new u
+pub cleared_texts : (old new : texts.OutputTexts) (u : unit.Unit) → true ≡ is_output u → Clears old new u
     → (λ v. Some (unit_text new v)) ≡ (if is_output u then at u (option_map (λ t. [])) (λ v. Some (unit_text old v)) else (λ v. Some (unit_text old v)))
 cleared_texts old new u output clears = subst (λ b. (λ v. Some (unit_text new v)) ≡ (if b then at u (option_map (λ t. [])) (λ v. Some (unit_text old v)) else (λ v. Some (unit_text old v)))) output
     (fun_ext (λ v. ap (λ (t : List ℕ). Some t) (clears.text v) ∙ cleared_some (same_unit u v) (unit_text old v)))
@@ -145,7 +145,7 @@ grown_some true more t = refl
 grown_some false more t = refl
 
 -- bytes that are added to a text are added in the world
-pub grows_world : (files : Files) (old new : texts.Texts) (u : unit.Unit) (piece : List ℕ) (n : ℕ) (sectors : Sectors) → Grows old new u piece n
+pub grows_world : (files : Files) (old new : texts.OutputTexts) (u : unit.Unit) (piece : List ℕ) (n : ℕ) (sectors : Sectors) → Grows old new u piece n
     → world_of files (λ v. Some (unit_text new v)) sectors ≡ world_after_put u (take n piece) (world_of files (λ v. Some (unit_text old v)) sectors)
 grows_world files old new u piece n sectors grows = ap (λ (written : Texts). world_of files written sectors)
     (fun_ext (λ v. ap (λ (t : List ℕ). Some t) (grows.text v) ∙ grown_some (same_unit u v) (take n piece) (unit_text old v)))

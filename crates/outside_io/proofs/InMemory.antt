@@ -9,7 +9,7 @@ use Rattle.outside_io.specs.declared.in_memory.files.NamedFile.{NamedFile}
 use Rattle.outside_io.specs.declared.in_memory.files.Files.{Files}
 use Rattle.outside_io.specs.World.{one_reading, asked_after, most_faults, all_units, place, same_unit, is_input, is_pack, sectors_of}
 use Rattle.outside_io.proofs.Units.{unit_at-place}
-use Rattle.outside_io.specs.Files.{bytes_at, bytes_named, bytes_of, flag_of, rest_of, sectors_from, pack_of, asked_of, with_reading, IsIdle}
+use Rattle.outside_io.specs.Files.{bytes_at, bytes_named, file_bytes, flag_of, rest_of, sectors_from, pack_of, asked_of, with_reading, IsIdle}
 
 pub drop_nil : (n : ℕ) → drop {A = ℕ} n [] ≡ []
 drop_nil zero = refl
@@ -115,8 +115,8 @@ opened_rest true now old = refl
 opened_rest false now old = refl
 
 opened_same : (files : Files) (u : unit.Unit) (file : ℕ) (name : List ℕ) → place u < length files.bound → place u < length files.opened → place u < length files.position
-    → bytes_at files.named.items file ≡ bytes_of files name
-    → rest_of (record files { bound = set files.bound (place u) true; opened = set files.opened (place u) file; position = set files.position (place u) 0 }) u ≡ (if is_input u then bytes_of files name else rest_of files u)
+    → bytes_at files.named.items file ≡ file_bytes files name
+    → rest_of (record files { bound = set files.bound (place u) true; opened = set files.opened (place u) file; position = set files.position (place u) 0 }) u ≡ (if is_input u then file_bytes files name else rest_of files u)
 opened_same files u file name b o p found =
     let flag : get_or (set files.bound (place u) true) (place u) false ≡ true = get_or-set_same files.bound (place u) true false b in
     let open_file : get_or (set files.opened (place u) file) (place u) 0 ≡ file = get_or-set_same files.opened (place u) file 0 o in
@@ -132,17 +132,17 @@ opened_other files u v file other =
     rw (flag, open_file, start) refl
 
 by_same : (files : Files) (u v : unit.Unit) (file : ℕ) (name : List ℕ) (b : Bool) → same_unit u v ≡ b → place u < length files.bound → place u < length files.opened → place u < length files.position
-    → bytes_at files.named.items file ≡ bytes_of files name
-    → rest_of (record files { bound = set files.bound (place u) true; opened = set files.opened (place u) file; position = set files.position (place u) 0 }) v ≡ (if b then (if is_input u then bytes_of files name else rest_of files v) else rest_of files v)
-by_same files u v file name true same b o p found = subst (λ w. rest_of (record files { bound = set files.bound (place u) true; opened = set files.opened (place u) file; position = set files.position (place u) 0 }) w ≡ (if is_input u then bytes_of files name else rest_of files w)) (same_unit-eq u v same) (opened_same files u file name b o p found)
+    → bytes_at files.named.items file ≡ file_bytes files name
+    → rest_of (record files { bound = set files.bound (place u) true; opened = set files.opened (place u) file; position = set files.position (place u) 0 }) v ≡ (if b then (if is_input u then file_bytes files name else rest_of files v) else rest_of files v)
+by_same files u v file name true same b o p found = subst (λ w. rest_of (record files { bound = set files.bound (place u) true; opened = set files.opened (place u) file; position = set files.position (place u) 0 }) w ≡ (if is_input u then file_bytes files name else rest_of files w)) (same_unit-eq u v same) (opened_same files u file name b o p found)
 by_same files u v file name false same b o p found = opened_other files u v file (ne_from_test (place u) (place v) same)
 
 -- a unit reads a file from its start
 pub rest_opened : (files : Files) (u v : unit.Unit) (p file : ℕ) (name : List ℕ) → p ≡ place u → place u < length files.bound → place u < length files.opened → place u < length files.position
-    → bytes_at files.named.items file ≡ bytes_of files name
-    → rest_of (record files { bound = set files.bound p true; opened = set files.opened p file; position = set files.position p 0 }) v ≡ (if same_unit u v then (if is_input u then bytes_of files name else rest_of files v) else rest_of files v)
+    → bytes_at files.named.items file ≡ file_bytes files name
+    → rest_of (record files { bound = set files.bound p true; opened = set files.opened p file; position = set files.position p 0 }) v ≡ (if same_unit u v then (if is_input u then file_bytes files name else rest_of files v) else rest_of files v)
 rest_opened files u v p file name is b o q found =
-    subst (λ (k : ℕ). rest_of (record files { bound = set files.bound k true; opened = set files.opened k file; position = set files.position k 0 }) v ≡ (if same_unit u v then (if is_input u then bytes_of files name else rest_of files v) else rest_of files v)) (sym is)
+    subst (λ (k : ℕ). rest_of (record files { bound = set files.bound k true; opened = set files.opened k file; position = set files.position k 0 }) v ≡ (if same_unit u v then (if is_input u then file_bytes files name else rest_of files v) else rest_of files v)) (sym is)
     (by_same files u v file name (same_unit u v) refl b o q found)
 
 -- the pack is the unit Pack
@@ -150,8 +150,8 @@ pub is_pack-same : (u : unit.Unit) → same_unit u Pack ≡ is_pack u
 is_pack-same Pack = refl
 is_pack-same u = refl
 
-pack_by : (files : Files) (u : unit.Unit) (file : ℕ) (name : List ℕ) (b : Bool) → same_unit u Pack ≡ b → place u < length files.bound → place u < length files.opened → bytes_at files.named.items file ≡ bytes_of files name
-    → pack_of (record files { bound = set files.bound (place u) true; opened = set files.opened (place u) file; position = set files.position (place u) 0 }) ≡ (if b then sectors_of (bytes_of files name) else pack_of files)
+pack_by : (files : Files) (u : unit.Unit) (file : ℕ) (name : List ℕ) (b : Bool) → same_unit u Pack ≡ b → place u < length files.bound → place u < length files.opened → bytes_at files.named.items file ≡ file_bytes files name
+    → pack_of (record files { bound = set files.bound (place u) true; opened = set files.opened (place u) file; position = set files.position (place u) 0 }) ≡ (if b then sectors_of (file_bytes files name) else pack_of files)
 pack_by files u file name true same b o found =
     let at_pack : place Pack ≡ place u = sym (eq_from_test (place u) (place Pack) same) in
     let flag : get_or (set files.bound (place u) true) (place Pack) false ≡ true = rw at_pack (get_or-set_same files.bound (place u) true false b) in
@@ -164,11 +164,11 @@ pack_by files u file name false same b o found =
     rw (flag, open_file) refl
 
 -- the pack once a file is opened for a unit
-pub pack_opened : (files : Files) (u : unit.Unit) (p file : ℕ) (name : List ℕ) → p ≡ place u → place u < length files.bound → place u < length files.opened → bytes_at files.named.items file ≡ bytes_of files name
-    → pack_of (record files { bound = set files.bound p true; opened = set files.opened p file; position = set files.position p 0 }) ≡ (if is_pack u then sectors_of (bytes_of files name) else pack_of files)
+pub pack_opened : (files : Files) (u : unit.Unit) (p file : ℕ) (name : List ℕ) → p ≡ place u → place u < length files.bound → place u < length files.opened → bytes_at files.named.items file ≡ file_bytes files name
+    → pack_of (record files { bound = set files.bound p true; opened = set files.opened p file; position = set files.position p 0 }) ≡ (if is_pack u then sectors_of (file_bytes files name) else pack_of files)
 pack_opened files u p file name is b o found =
-    subst (λ (k : ℕ). pack_of (record files { bound = set files.bound k true; opened = set files.opened k file; position = set files.position k 0 }) ≡ (if is_pack u then sectors_of (bytes_of files name) else pack_of files)) (sym is)
-    (pack_by files u file name (same_unit u Pack) refl b o found ∙ ap (λ (b : Bool). if b then sectors_of (bytes_of files name) else pack_of files) (is_pack-same u))
+    subst (λ (k : ℕ). pack_of (record files { bound = set files.bound k true; opened = set files.opened k file; position = set files.position k 0 }) ≡ (if is_pack u then sectors_of (file_bytes files name) else pack_of files)) (sym is)
+    (pack_by files u file name (same_unit u Pack) refl b o found ∙ ap (λ (b : Bool). if b then sectors_of (file_bytes files name) else pack_of files) (is_pack-same u))
 
 -- where no unit is in use, a file more changes no pack
 pub pack_added : (old new : Files) → IsIdle old → flag_of new ≡ flag_of old → pack_of new ≡ pack_of old

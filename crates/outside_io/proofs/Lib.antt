@@ -5,7 +5,7 @@ pub mod Packs
 pub mod TextLemmas
 pub mod Units
 mod OneElement
-pub mod Untold
+pub mod UntoldHosts
 pub mod Worlds
 pub mod EventLemmas
 pub mod LineLemmas

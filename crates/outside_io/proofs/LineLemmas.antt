@@ -3,7 +3,7 @@ use Rattle.std.proofs.Common.{◌≡◌, ◌≢◌, ℕ, suc, ◌+◌, ◌-◌, 
 use Rattle.std.proofs.lemmas.Bool.Decides.{nat_tests}
 use Rattle.std.proofs.lemmas.List.{length-take}
 use Rattle.std.specs.Prelude.{if◌then◌else◌, ◌==◌}
-use Rattle.outside_io.specs.Lines.{line_of, behind_line, without_return, HasNoEnd}
+use Rattle.outside_io.specs.Lines.{first_line_of, behind_line, without_return, HasNoEnd}
 
 -- the first of bytes without LF is none
 first_test : (b : ℕ) (bytes : List ℕ) → HasNoEnd (b ∷ bytes) → (b == 10) ≡ false
@@ -14,7 +14,7 @@ rest_none : (b : ℕ) (bytes : List ℕ) → HasNoEnd (b ∷ bytes) → HasNoEnd
 rest_none b bytes none k within = none (suc k) (omega (arith, within))
 
 -- bytes without LF are the front of the first line
-pub line_of-append : (held more : List ℕ) → HasNoEnd held → line_of (held ++ more) ≡ held ++ line_of more
+pub line_of-append : (held more : List ℕ) → HasNoEnd held → first_line_of (held ++ more) ≡ held ++ first_line_of more
 line_of-append [] more none = refl
 line_of-append (b ∷ held) more none = rw (first_test b held none) (ap (λ (x : List ℕ). b ∷ x) (line_of-append held more (rest_none b held none)))
 

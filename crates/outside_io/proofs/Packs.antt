@@ -11,7 +11,7 @@ use Rattle.outside_io.specs.Pack.{sectors_over, IsUnwritten}
 use Rattle.outside_io.specs.World.{zero_character, with_zeros, sectors_of, sector_text, empty_pack, blank_pack, sectors_after_binding, place, is_pack, is_output}
 use Rattle.outside_io.specs.declared.host.Unit.TheVariants.{Pack}
 use Rattle.outside_io.specs.declared.in_memory.files.Files.{Files}
-use Rattle.outside_io.specs.Files.{bytes_at, bytes_of, sectors_from, pack_of, Opens, IsIdle}
+use Rattle.outside_io.specs.Files.{bytes_at, file_bytes, sectors_from, pack_of, Opens, IsIdle}
 use Rattle.outside_io.proofs.InMemory.{drop_nil, bytes_at-get, bytes_at-past, is_pack-same, same_unit-eq}
 use Rattle.outside_io.proofs.FilesWorld.{idle_pack}
 
@@ -96,20 +96,20 @@ cleared_pack false new old before pack = absurd (true≢false (sym pack))
 
 -- the pack once a file is opened for another unit
 pub opens_other : (old new : Files) (u : unit.Unit) (name : List ℕ) (sectors : Sectors) → false ≡ is_pack u → Opens old new u name
-    → Some (sectors_over sectors (pack_of new)) ≡ (if is_pack u then sectors_after_binding (Some (bytes_of old name)) (Some (sectors_over sectors (pack_of old))) else Some (sectors_over sectors (pack_of old)))
+    → Some (sectors_over sectors (pack_of new)) ≡ (if is_pack u then sectors_after_binding (Some (file_bytes old name)) (Some (sectors_over sectors (pack_of old))) else Some (sectors_over sectors (pack_of old)))
 opens_other old new u name sectors no_pack opens =
-    ap (λ (p : ℕ → List ℕ). Some (sectors_over sectors p)) opens.pack ∙ kept_pack (is_pack u) sectors (sectors_of (bytes_of old name)) (pack_of old) (sym no_pack)
+    ap (λ (p : ℕ → List ℕ). Some (sectors_over sectors p)) opens.pack ∙ kept_pack (is_pack u) sectors (sectors_of (file_bytes old name)) (pack_of old) (sym no_pack)
 
 -- and for an output
 pub opens_output : (old new : Files) (u : unit.Unit) (name : List ℕ) (sectors : Sectors) → true ≡ is_output u → Opens old new u name
-    → Some (sectors_over sectors (pack_of new)) ≡ (if is_pack u then sectors_after_binding (Some (bytes_of old name)) (Some (sectors_over sectors (pack_of old))) else Some (sectors_over sectors (pack_of old)))
+    → Some (sectors_over sectors (pack_of new)) ≡ (if is_pack u then sectors_after_binding (Some (file_bytes old name)) (Some (sectors_over sectors (pack_of old))) else Some (sectors_over sectors (pack_of old)))
 opens_output old new u name sectors output = opens_other old new u name sectors (sym (output_no_pack u (is_pack u) refl (sym output)))
 
 -- the pack once its file is opened and no sector is written
 pub opens_pack : (old new : Files) (u : unit.Unit) (name : List ℕ) (was now : Sectors) → true ≡ is_pack u → IsUnwritten now → Opens old new u name
-    → Some (sectors_over now (pack_of new)) ≡ (if is_pack u then sectors_after_binding (Some (bytes_of old name)) (Some (sectors_over was (pack_of old))) else Some (sectors_over was (pack_of old)))
+    → Some (sectors_over now (pack_of new)) ≡ (if is_pack u then sectors_after_binding (Some (file_bytes old name)) (Some (sectors_over was (pack_of old))) else Some (sectors_over was (pack_of old)))
 opens_pack old new u name was now pack none opens =
-    ap (λ (p : ℕ → List ℕ). Some p) (over_none now (pack_of new) none ∙ opens.pack) ∙ cleared_pack (is_pack u) (sectors_of (bytes_of old name)) (pack_of old) (sectors_over was (pack_of old)) (sym pack)
+    ap (λ (p : ℕ → List ℕ). Some p) (over_none now (pack_of new) none ∙ opens.pack) ∙ cleared_pack (is_pack u) (sectors_of (file_bytes old name)) (pack_of old) (sectors_over was (pack_of old)) (sym pack)
 
 -- the pack of files of which none is bound, where no sector is written
 pub empty_over : (files : Files) (sectors : Sectors) → IsIdle files → IsUnwritten sectors → sectors_over sectors (pack_of files) ≡ empty_pack

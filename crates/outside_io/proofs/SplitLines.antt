@@ -4,12 +4,12 @@ use Rattle.std.proofs.lemmas.Bool.Decides.{nat_tests}
 use Rattle.std.proofs.lemmas.List.{append-nil, take_all}
 use Rattle.std.specs.Prelude.{Some, None}
 use Rattle.memchr.specs.Find.{IsFirstByte, is_byte}
-use Rattle.outside_io.specs.Lines.{line_of, behind_line, HasNoEnd}
+use Rattle.outside_io.specs.Lines.{first_line_of, behind_line, HasNoEnd}
 use Rattle.outside_io.proofs.LineLemmas.{line_of-append, behind_line-append}
 
 -- the first line ends before its LF, and what stands behind it begins after
 cut_at : (bytes : List ℕ) (i : ℕ) → i < length bytes → is_byte 10 (get_or bytes i 0) ≡ true → ((k : ℕ) → k < i → is_byte 10 (get_or bytes k 0) ≡ false)
-    → (line_of bytes ≡ take i bytes) × (behind_line bytes ≡ drop (suc i) bytes)
+    → (first_line_of bytes ≡ take i bytes) × (behind_line bytes ≡ drop (suc i) bytes)
 cut_at [] i within ends none = absurd (omega arith)
 cut_at (b ∷ bytes) zero within ends none = rw ends (refl, refl)
 cut_at (b ∷ bytes) (suc i) within ends none =
@@ -24,11 +24,11 @@ not_true false isnt = refl
 
 module _ (bytes : List ℕ) where
   -- the same of the LF that a search found
-  cut : (i : ℕ) → IsFirstByte (is_byte 10) bytes (Some i) → (line_of bytes ≡ take i bytes) × (behind_line bytes ≡ drop (suc i) bytes)
+  cut : (i : ℕ) → IsFirstByte (is_byte 10) bytes (Some i) → (first_line_of bytes ≡ take i bytes) × (behind_line bytes ≡ drop (suc i) bytes)
   cut i found = cut_at bytes i found.0.high found.1 (λ k below. not_true _ (found.0.before k (omega arith) below))
 
   -- where a LF was found, the line stands before it
-  pub line_before : (i : ℕ) → IsFirstByte (is_byte 10) bytes (Some i) → line_of bytes ≡ take i bytes
+  pub line_before : (i : ℕ) → IsFirstByte (is_byte 10) bytes (Some i) → first_line_of bytes ≡ take i bytes
   line_before i found = (cut i found).0
 
   -- and all that stands after it is behind the line
@@ -42,8 +42,8 @@ module _ (bytes : List ℕ) where
   no_end none k within is = none k (omega arith) within (grind (arith, nat_tests))
 
   -- and then the line is all of them
-  pub line_whole : IsFirstByte (is_byte 10) bytes None → line_of bytes ≡ bytes
-  line_whole none = ap line_of (sym (append-nil bytes)) ∙ line_of-append bytes [] (no_end none) ∙ append-nil bytes
+  pub line_whole : IsFirstByte (is_byte 10) bytes None → first_line_of bytes ≡ bytes
+  line_whole none = ap first_line_of (sym (append-nil bytes)) ∙ line_of-append bytes [] (no_end none) ∙ append-nil bytes
 
   -- with nothing behind it
   pub nothing_behind : IsFirstByte (is_byte 10) bytes None → behind_line bytes ≡ []

@@ -23,16 +23,16 @@ bytes_named [] name = []
 bytes_named (f ∷ fs) name = if bytes_eq (string_bytes f.name) name then f.bytes.items else bytes_named fs name
 
 -- the bytes of the file of this name
-abbrev pub bytes_of : Files → List ℕ → List ℕ
-bytes_of files name = bytes_named files.named.items name
+abbrev pub file_bytes : Files → List ℕ → List ℕ
+file_bytes files name = bytes_named files.named.items name
 
 -- whether the unit is in use
 abbrev pub flag_of : Files → unit.Unit → Bool
 flag_of files u = slice_index_or files.bound (place u) false
 
 -- the same flags, and this unit in use
-abbrev pub with_flag : unit.Unit → (unit.Unit → Bool) → unit.Unit → Bool
-with_flag u flags v = if same_unit u v then true else flags v
+abbrev pub with_in_use : unit.Unit → (unit.Unit → Bool) → unit.Unit → Bool
+with_in_use u flags v = if same_unit u v then true else flags v
 
 -- the bytes of the file that was opened for the unit
 abbrev pub opened_bytes : Files → unit.Unit → List ℕ
@@ -76,7 +76,7 @@ pub record Gives (old new : Files) (u : unit.Unit) (buf : List ℕ) (n : ℕ) : 
   pub left : (v : unit.Unit) → rest_of new v ≡ (if same_unit u v then drop n (rest_of old v) else rest_of old v)
   pub flags : flag_of new ≡ flag_of old
   pub names : name_of_unit new ≡ name_of_unit old
-  pub bytes : bytes_of new ≡ bytes_of old
+  pub bytes : file_bytes new ≡ file_bytes old
   pub pack : pack_of new ≡ pack_of old
   pub asked : (v : unit.Unit) → asked_of new v ≡ with_reading u (take n buf) (asked_of old) v
 
@@ -90,11 +90,11 @@ with_rest u bytes rests v = if same_unit u v then rest_once_opened u bytes (rest
 
 -- the unit keeps the name of a file, and reads that file from its start
 pub record Opens (old new : Files) (u : unit.Unit) (name : List ℕ) : Type 0 where
-  pub flags : (v : unit.Unit) → flag_of new v ≡ with_flag u (flag_of old) v
+  pub flags : (v : unit.Unit) → flag_of new v ≡ with_in_use u (flag_of old) v
   pub names : KeepsName old.names new.names u name
-  pub left : (v : unit.Unit) → rest_of new v ≡ with_rest u (bytes_of old name) (rest_of old) v
-  pub bytes : bytes_of new ≡ bytes_of old
-  pub pack : pack_of new ≡ (if is_pack u then sectors_of (bytes_of old name) else pack_of old)
+  pub left : (v : unit.Unit) → rest_of new v ≡ with_rest u (file_bytes old name) (rest_of old) v
+  pub bytes : file_bytes new ≡ file_bytes old
+  pub pack : pack_of new ≡ (if is_pack u then sectors_of (file_bytes old name) else pack_of old)
   pub asked : asked_of new ≡ asked_of old
 
 -- no unit is in use
@@ -107,7 +107,7 @@ IsUnasked files = (u : unit.Unit) → asked_of files u ≡ record { last = 0; en
 
 -- the file of this name has these bytes, and nothing else changes
 pub record AddsFile (old new : Files) (name bytes : List ℕ) : Type 0 where
-  pub added : (other : List ℕ) → bytes_of new other ≡ (if bytes_eq name other then bytes else bytes_of old other)
+  pub added : (other : List ℕ) → file_bytes new other ≡ (if bytes_eq name other then bytes else file_bytes old other)
   pub left : (v : unit.Unit) → rest_of new v ≡ rest_of old v
   pub flags : flag_of new ≡ flag_of old
   pub names : name_of_unit new ≡ name_of_unit old
@@ -119,7 +119,7 @@ abbrev pub world_of : Files → (unit.Unit → Option (List ℕ)) → Option (�
 world_of files written sectors = record {
   in_use = flag_of files;
   names = name_of_unit files;
-  file = λ name. Some (bytes_of files name);
+  file = λ name. Some (file_bytes files name);
   left = λ u. Some (rest_of files u);
   written = written;
   sectors = sectors;

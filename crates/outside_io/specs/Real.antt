@@ -1,7 +1,7 @@
 -- A host that tells nothing of the bytes.
 use Rattle.std.specs.Prelude.{◌≡◌, ℕ, Bool, false, List, None, slice_index_or}
 use Rattle.outside_io.specs.declared.host.Unit as unit
-use Rattle.outside_io.specs.declared.names.Names.{Names}
+use Rattle.outside_io.specs.declared.names.BoundNames.{BoundNames}
 use Rattle.outside_io.specs.declared.real.RealHost.{RealHost}
 use Rattle.outside_io.specs.declared.whole.Sent.{Sent}
 use Rattle.outside_io.specs.declared.whole.Sent.TheVariants as sent
@@ -10,7 +10,7 @@ use Rattle.outside_io.specs.Names.{name_of}
 use Rattle.outside_io.specs.Scratch.{scratch_room}
 
 -- a world that tells which units are in use and under which names, and nothing else
-abbrev pub untold : List Bool → Names → World
+abbrev pub untold : List Bool → BoundNames → World
 untold bound names = record {
   in_use = λ u. slice_index_or bound (place u) false;
   names = name_of names;
@@ -38,6 +38,6 @@ pub record TellsNothing (w : World) : Type 0 where
   pub asked : (u : unit.Unit) → w.asked u ≡ None
 
 -- what the end of a job does: nothing that is told changes but the count, which rises where it failed
-abbrev pub Finishes : Seen → Seen → Sent → Type 0
-Finishes old new sent.Done = new ≡ old
-Finishes old new sent.Failed = Fails old new
+abbrev pub FinishesFiles : Seen → Seen → Sent → Type 0
+FinishesFiles old new sent.Done = new ≡ old
+FinishesFiles old new sent.Failed = Fails old new

@@ -41,13 +41,13 @@ pub record ReadsPart (old new : Seen) (u : unit.Unit) (least most : ℕ) : Type 
   pub goes : Goes old new (world_after_take u gone old.world)
 
 -- the text has more bytes than the limit, where it is told
-abbrev pub IsOver : ℕ → Option (List ℕ) → Type 0
-IsOver limit text = IfSome text (λ all. limit < length all)
+abbrev pub IsOverLimit : ℕ → Option (List ℕ) → Type 0
+IsOverLimit limit text = IfSome text (λ all. limit < length all)
 
 -- what the reading of a whole unit does: never is more than one byte over the limit taken, and memory lacks only where some
 -- were
 abbrev pub Reads : Seen → Seen → unit.Unit → ℕ → Result (Vec ℕ Global) ReadAll → Type 0
 Reads old new u limit (Ok text) = ReadsWhole old new u limit text.items
-Reads old new u limit (Err read.TooLong) = ReadsPart old new u (limit + 1) (limit + 1) × IsOver limit (old.world.left u)
+Reads old new u limit (Err read.TooLong) = ReadsPart old new u (limit + 1) (limit + 1) × IsOverLimit limit (old.world.left u)
 Reads old new u limit (Err read.Failed) = ReadsPart old new u 0 limit × Rose old.faults new.faults
 Reads old new u limit (Err read.Memory) = ReadsPart old new u 1 limit

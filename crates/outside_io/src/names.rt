@@ -35,18 +35,18 @@ impl KeptName {
 
 // The name of each unit, none where it isn't bound or its name is too long.
 #[derive(Drop)]
-pub(crate) struct Names {
+pub(crate) struct BoundNames {
     kept: [Option<KeptName>; UNIT_COUNT],
 }
 
-impl Names {
+impl BoundNames {
     ghost use Rattle.outside_io.specs.Names.{name_of, HasNoName, KeepsName};
 
     // No name.
     pub(crate) fn new() -> Self
         ensures { HasNoName result }
     {
-        Names {
+        BoundNames {
             kept: [None; UNIT_COUNT],
         }
     }

@@ -1,13 +1,13 @@
 // The host over real files and the standard output: it tells nothing of the bytes.
 ghost use Rattle.std.specs.Prelude.{◌≡◌, ◌≤◌, ◌<◌, length, false, true, IfOk, IfSome};
 ghost use Rattle.outside_io.specs.World.{IsFree, IsUnnamed, Fails, Binds, Takes, Puts, ReadsSector, WritesSector, is_input, is_output};
-ghost use Rattle.outside_io.specs.Real.{real_seen, pack_room, TellsNothing, Finishes};
+ghost use Rattle.outside_io.specs.Real.{real_seen, pack_room, TellsNothing, FinishesFiles};
 ghost use Rattle.outside_io.specs.declared.host.TheConstants.{ALL_SECTORS};
 ghost use Rattle.outside_io.specs.declared.host.Unit.TheVariants.{Pack};
 ghost use Rattle.outside_io.specs.declared.host.Drive.TheVariants.{Done};
 
 use crate::host::{SECTOR_LENGTH, UNIT_COUNT, one_more};
-use crate::names::Names;
+use crate::names::BoundNames;
 use crate::opened::OpenFiles;
 use crate::scratch::{PackRoom, ScratchPack};
 use crate::trouble::{Cause, Doing, Trouble};
@@ -94,7 +94,7 @@ pub struct RealHost<'a, R: Files> {
     pack_has: u64,
     scratch: ScratchPack,
     bound: [bool; UNIT_COUNT],
-    names: Names,
+    names: BoundNames,
     faults: u64,
     trouble: Option<Trouble>,
 }
@@ -132,7 +132,7 @@ where
             pack_has: 0,
             scratch: ScratchPack::new(rt.alloc(), room),
             bound: [false; UNIT_COUNT],
-            names: Names::new(),
+            names: BoundNames::new(),
             faults: 0,
             trouble: None,
         }
@@ -151,7 +151,7 @@ where
     /// changed. The others are emptied all the same.
     /// Source: this project's own.
     pub fn finish(&mut self) -> Sent
-        ensures finishes { Finishes (real_seen self.old) (real_seen self.new) result }
+        ensures finishes { FinishesFiles (real_seen self.old) (real_seen self.new) result }
         ensures room { pack_room self.new ≡ pack_room self.old }
     {
         match self.files.empty_all() {

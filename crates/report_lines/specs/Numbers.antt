@@ -1,5 +1,6 @@
 -- Numbers in texts.
-use Rattle.std.specs.Prelude.{ℕ, ◌-◌, List, [], ◌∷◌, ◌++◌, length, replicate, codes, decimal}
+use Rattle.std.specs.Prelude.{ℕ, ◌-◌, List, ◌∷◌, ◌++◌, length, replicate, codes, decimal}
+use Rattle.outside_io.specs.Lines.{with_line_feed}
 
 -- zeros fill up at the left
 abbrev pub zero_filled : ℕ → List ℕ → List ℕ
@@ -12,10 +13,6 @@ digits_to_width width n = zero_filled width (decimal n)
 -- a text, a blank, and what follows
 abbrev pub with_blank : List ℕ → List ℕ → List ℕ
 with_blank text rest = text ++ 32 ∷ rest
-
--- a line is ended by LF
-abbrev pub with_line_feed : List ℕ → List ℕ
-with_line_feed text = text ++ 10 ∷ []
 
 -- a count ends a line
 abbrev pub at_count : ℕ → List ℕ

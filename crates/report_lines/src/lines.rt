@@ -1,7 +1,8 @@
 // Whole lines of a text and what stands behind it.
 // Source: this project's own.
 ghost use Rattle.std.specs.Prelude.{◌≡◌, ◌≤◌, ◌+◌, ◌++◌, length};
-ghost use Rattle.report_lines.specs.Numbers.{with_line_feed, at_count, at_steps};
+ghost use Rattle.outside_io.specs.Lines.{with_line_feed};
+ghost use Rattle.report_lines.specs.Numbers.{at_count, at_steps};
 ghost use Rattle.report_lines.specs.Units.{unit_name};
 ghost use Rattle.report_lines.specs.declared.numbers.TheConstants.{LONGEST_LINE};
 

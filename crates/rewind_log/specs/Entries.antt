@@ -24,7 +24,7 @@ abbrev pub oldest_dropped : (m : ℕ) → List (LogEntry m) → List (LogEntry m
 oldest_dropped m es = if length es == most_places then take (length es - 1) es else es
 
 -- the words of an entry lie in core
-pub record IsWithin (m : ℕ) (e : LogEntry m) : Type 0 where
+pub record IsEntryWithin (m : ℕ) (e : LogEntry m) : Type 0 where
   pub order : e.from ≤ e.to
   pub room : e.to ≤ m * 2000
 
@@ -33,4 +33,4 @@ pub record IsHeld (m : ℕ) (latest : List ℕ) (entries : Buffer (LogEntry m)) 
   pub is_size : IsSize m
   pub capacity : entries.capacity ≡ most_places
   pub all : length entries.items + length spare ≡ most_places
-  pub within : All (IsWithin m) entries.items
+  pub within : All (IsEntryWithin m) entries.items

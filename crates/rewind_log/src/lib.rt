@@ -9,7 +9,7 @@
 ghost use Rattle.std.specs.Prelude.{◌≡◌, [], ◌<◌, ◌≤◌, ◌*◌, ◌+◌, All, IfOk, length, slice_get, Some, IfSome};
 ghost use Rattle.digit_core.specs.{AgreeOutside, IsSize};
 ghost use Rattle.rewind_log.specs.Kept.{place_of_machine, places_with, machine_at, most_places, newest};
-ghost use Rattle.rewind_log.specs.Entries.{IsHeld, IsWithin, core_before, place_of_entry, oldest_dropped, places_of_entries};
+ghost use Rattle.rewind_log.specs.Entries.{IsHeld, IsEntryWithin, core_before, place_of_entry, oldest_dropped, places_of_entries};
 ghost use Rattle.rewind_log.specs.declared.LogEntry.{LogEntry};
 
 use branch_ops::Regs;
@@ -192,7 +192,7 @@ impl<const M: u32> Rewind<M> {
 // Puts the words back in which the place before that of entry number `k` differed.
 fn undo<const M: u32>(entries: &HeapCircularBuffer<LogEntry<M>>, k: usize, core: &mut Core<M>)
     requires there { k < length entries.now.items }
-    requires within { All (IsWithin M) entries.now.items }
+    requires within { All (IsEntryWithin M) entries.now.items }
     ensures { (e : LogEntry M) → slice_get entries.now.items k ≡ Some e → core.new ≡ core_before M core.old e }
 {
     match entries.get(k) {

@@ -5,7 +5,7 @@ use Rattle.std.proofs.lemmas.Bool.Decides.{nat_tests}
 use Rattle.sps_expr.specs.Symbol.{SymbolEntry, find, with_head, symbol_of}
 use Rattle.sps_expr.specs.Grammar.{Factor, Here, Number, Name, Headed, Term, Signed, Expr}
 use Rattle.sps_expr.specs.Reading.{reading, without_blanks}
-use Rattle.sps_expr.specs.Value.{Scope, ◌>>=◌, number_in_range, is_found_late, is_undefined, comes_late, factor_value, product, term_value, total, signed_value, is_minus, expr_value, any_factor, answer_of, tree_outcome, value_of}
+use Rattle.sps_expr.specs.Value.{Scope, ◌>>=◌, number_in_range, is_found_late, is_undefined, comes_late, factor_value, product, term_value, total, signed_value, is_minus, expr_value, any_factor, value_answer, tree_outcome, value_of}
 use Rattle.sps_expr.specs.Earlier.{if_earlier, AreEarlier, undefined_for_late}
 use Rattle.sps_expr.proofs.Cases.{by_bool}
 
@@ -108,7 +108,7 @@ module _ (head : Option ℕ) (earlier all : List SymbolEntry) (here : ℤ) (befo
   same_value : (e : Expr) → any_factor (is_undefined early) e ≡ false → expr_value early e ≡ expr_value late e
   same_value e h = same_total (record { minus = is_minus e.sign; term = e.first } ∷ e.more) (pos 0) h
 
-  late_or_not : (uE uL lL : Bool) (vE vL : Option ℤ) → uE ≡ (uL || lL) → (uE ≡ false → vE ≡ vL) → answer_of uE false vE ≡ undefined_for_late (answer_of uL lL vL)
+  late_or_not : (uE uL lL : Bool) (vE vL : Option ℤ) → uE ≡ (uL || lL) → (uE ≡ false → vE ≡ vL) → value_answer uE false vE ≡ undefined_for_late (value_answer uL lL vL)
   late_or_not uE true lL vE vL e h = rw e
   late_or_not uE false true vE vL e h = rw e
   late_or_not uE false false vE None e h = rw (e, h e)

@@ -6,7 +6,7 @@ use Rattle.sps_ops.specs.declared.rule.Rule.TheVariants.{BadExpression}
 use Rattle.sps_expr.specs.declared.expression.PartialResult.{PartialResult}
 use Rattle.sps_expr.specs.Grammar.{Factor}
 use Rattle.sps_expr.specs.Reading.{Tail, tokens, tail_of, without_blanks}
-use Rattle.sps_expr.specs.Value.{Scope, ◌>>=◌, number_in_range, is_undefined, comes_late, any_in_term, product, signed_value, total, answer_of}
+use Rattle.sps_expr.specs.Value.{Scope, ◌>>=◌, number_in_range, is_undefined, comes_late, any_in_term, product, signed_value, total, value_answer}
 
 -- some factor of what follows passes the test
 abbrev pub any_more : (Factor → Bool) → Tail → Bool
@@ -33,7 +33,7 @@ late_after scope p tail = p.late || any_more (comes_late scope) tail
 abbrev pub outcome_with : Scope → PartialResult → Option Tail → Result ℤ Rule
 outcome_with scope p None = Err BadExpression
 outcome_with scope p (Some tail) =
-    answer_of (undefined_after scope p tail) (late_after scope p tail) (value_after scope p tail)
+    value_answer (undefined_after scope p tail) (late_after scope p tail) (value_after scope p tail)
 
 -- what the whole comes to, where this text is left
 unfoldable pub outcome_from : Scope → PartialResult → List ℕ → Result ℤ Rule

@@ -4,7 +4,7 @@ use Rattle.std.specs.List.{list_all}
 use Rattle.std.specs.Bool.{⊤}
 use Rattle.std.proofs.lemmas.Bool.Decides.{nat_tests}
 use Rattle.std.specs.Char.{is_ascii_digit}
-use Rattle.sps_expr.specs.Grammar.{Factor, Here, Number, Name, Headed, Term, Signed, Expr, is_letter_or_digit, is_word, is_name, is_head, is_nothing, is_factor, headed_text, is_term, is_expr, factor_text, factors_text, term_text, terms_text, sign_byte, sign_text, expr_text, IsReading}
+use Rattle.sps_expr.specs.Grammar.{Factor, Here, Number, Name, Headed, Term, Signed, Expr, is_letter_or_digit, is_word, is_name, is_head_char, is_nothing, is_factor, headed_text, is_term, is_expr, factor_text, factors_text, term_text, terms_text, sign_byte, sign_text, expr_text, IsReading}
 use Rattle.sps_expr.specs.Reading.{Token, Word, Mark, Tail, tokens, onto_token, tail_of, reading, with_mark, unsigned_expr, expr_of, with_sign, factor_of, is_run_byte, behind_dollar, plain_name, behind_first, name_factor, word_factor}
 use Rattle.sps_expr.specs.Steps.{run, past_run}
 use Rattle.sps_expr.proofs.Cases.{by_bool, by_option, and_parts}
@@ -86,7 +86,7 @@ plain_ok word f e = by_bool (is_name word && nat_le (length word) 6)
     (λ s. let k = rw s at e in let j : Name word ≡ f = cc in subst (FactorOk (Word word)) j (record { is_good = s; spelled = refl }))
     (λ s. absurd (let k = rw s at e in cc))
 
-dollar_ok : (head : Option ℕ) (name word : List ℕ) (f : Factor) → is_head head ≡ true → headed_text head name ≡ word → behind_dollar head name ≡ Some f → FactorOk (Word word) f
+dollar_ok : (head : Option ℕ) (name word : List ℕ) (f : Factor) → is_head_char head ≡ true → headed_text head name ≡ word → behind_dollar head name ≡ Some f → FactorOk (Word word) f
 dollar_ok head name word f h t e = by_bool (is_name name && nat_le (length name) 5)
     (λ s. let k = rw s at e in let j : Headed head name ≡ f = cc in subst (FactorOk (Word word)) j (record { is_good = and_true _ _ h s; spelled = t }))
     (λ s. absurd (let k = rw s at e in cc))

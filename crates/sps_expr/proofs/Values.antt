@@ -8,7 +8,7 @@ use Rattle.sps_expr.specs.declared.expression.FactorResult.{FactorResult}
 use Rattle.sps_expr.specs.declared.expression.PartialResult.{PartialResult}
 use Rattle.sps_expr.specs.Grammar.{Factor, Signed, is_name}
 use Rattle.sps_expr.specs.Reading.{is_run_byte, name_factor, behind_first, behind_dollar, plain_name, without_blanks, Token, Word, Mark, Tail, tokens, tail_of, reading, tail_with, unsigned_expr, expr_of, expr_with, factor_of, word_factor}
-use Rattle.sps_expr.specs.Value.{◌>>=◌, signed_value, factor_value, is_undefined, comes_late, is_found_late, symbol_value, Scope, value_of, tree_outcome, is_minus, product, total, term_value, answer_of, number_in_range}
+use Rattle.sps_expr.specs.Value.{◌>>=◌, signed_value, factor_value, is_undefined, comes_late, is_found_late, symbol_value, Scope, value_of, tree_outcome, is_minus, product, total, term_value, value_answer, number_in_range}
 use Rattle.sps_expr.specs.Steps.{symbol_at, TakesFactor, first_factor, with_factor, is_operator, factor_result, plus, times, LeadingSign, plus_sign, minus_sign, no_sign, IsUnsigned, sign_of, run, past_run}
 use Rattle.std.proofs.lemmas.List.{take_all}
 use Rattle.sps_expr.proofs.Outcomes.{outcome_from, outcome_with}
@@ -54,7 +54,7 @@ and_no true = refl
 and_no false = refl
 
 -- at the end
-pub comes_at_end : (scope : Scope) (p : PartialResult) (rest : List ℕ) → without_blanks rest ≡ [] → outcome_from scope p rest ≡ answer_of p.undefined p.late (plus p.sum p.minus p.product)
+pub comes_at_end : (scope : Scope) (p : PartialResult) (rest : List ℕ) → without_blanks rest ≡ [] → outcome_from scope p rest ≡ value_answer p.undefined p.late (plus p.sum p.minus p.product)
 unfolding outcome_from tokens tail_of product total
 comes_at_end scope p rest e = rw (e, or-false p.undefined, or-false p.late, value_at_end scope p.sum p.product p.minus)
 

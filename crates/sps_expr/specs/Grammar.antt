@@ -49,16 +49,16 @@ abbrev pub is_name : List ℕ → Bool
 is_name word = is_word word && not (list_all is_ascii_digit word)
 
 -- a head is one letter or digit
-abbrev pub is_head : Option ℕ → Bool
-is_head None = true
-is_head (Some h) = is_letter_or_digit h
+abbrev pub is_head_char : Option ℕ → Bool
+is_head_char None = true
+is_head_char (Some h) = is_letter_or_digit h
 
 -- a number is a word of digits; a name is any other word, of at most six characters, and of at most five behind a `$`
 abbrev pub is_factor : Factor → Bool
 is_factor Here = true
 is_factor (Number digits) = is_word digits && list_all is_ascii_digit digits
 is_factor (Name name) = is_name name && nat_le (length name) 6
-is_factor (Headed head name) = is_head head && (is_name name && nat_le (length name) 5)
+is_factor (Headed head name) = is_head_char head && (is_name name && nat_le (length name) 5)
 
 -- all factors of the term are factors
 abbrev pub is_term : Term → Bool

@@ -11,7 +11,7 @@ use Rattle.sps_expr.specs.declared.word.Word.{Word}
 use Rattle.sps_expr.specs.Grammar.{Factor, Here, Number, Name, Headed}
 use Rattle.sps_expr.specs.Reading.{Token, tokens, factor_of, is_run_byte, word_factor, unsigned_expr, without_blanks}
 use Rattle.sps_expr.specs.Symbol.{find, with_head, symbol_of}
-use Rattle.sps_expr.specs.Value.{Scope, ◌>>=◌, number_in_range, factor_value, is_undefined, comes_late, signed_value, answer_of, tree_outcome}
+use Rattle.sps_expr.specs.Value.{Scope, ◌>>=◌, number_in_range, factor_value, is_undefined, comes_late, signed_value, value_answer, tree_outcome}
 
 -- what a factor comes to
 abbrev pub factor_result : Scope → Factor → FactorResult
@@ -65,7 +65,7 @@ is_operator b = (b == 42) || ((b == 43) || (b == 45))
 
 -- what the whole comes to, where nothing more follows
 abbrev pub answer_so_far : PartialResult → Result ℤ Rule
-answer_so_far p = answer_of p.undefined p.late (plus p.sum p.minus p.product)
+answer_so_far p = value_answer p.undefined p.late (plus p.sum p.minus p.product)
 
 -- a factor stands at the front of the old text, the rest is behind it, and this is what it comes to
 pub record TakesFactor (scope : Scope) (old rest : List ℕ) (f : FactorResult) : Type 0 where

@@ -122,12 +122,12 @@ or_too_large None = Err ValueTooLarge
 or_too_large (Some v) = Ok v
 
 -- an undefined name counts before a late one, and both before a value that is too large
-abbrev pub answer_of : Bool → Bool → Option ℤ → Result ℤ Rule
-answer_of undefined late v = if undefined then Err UndefinedSymbol else if late then Err LateSymbol else or_too_large v
+abbrev pub value_answer : Bool → Bool → Option ℤ → Result ℤ Rule
+value_answer undefined late v = if undefined then Err UndefinedSymbol else if late then Err LateSymbol else or_too_large v
 
 -- the value of an expression, or the least rule that it breaks
 abbrev pub outcome : Scope → Expr → Result ℤ Rule
-outcome scope e = answer_of (any_factor (is_undefined scope) e) (any_factor (comes_late scope) e) (expr_value scope e)
+outcome scope e = value_answer (any_factor (is_undefined scope) e) (any_factor (comes_late scope) e) (expr_value scope e)
 
 -- the same of a tree that may not be there
 abbrev pub tree_outcome : Scope → Option Expr → Result ℤ Rule

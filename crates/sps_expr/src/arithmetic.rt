@@ -12,7 +12,7 @@ fn in_range(v: i64) -> bool
     -LARGEST <= v && v <= LARGEST
 }
 
-pub(crate) fn bounded(v: i64) -> Option<i64>
+pub(crate) fn number_in_range(v: i64) -> Option<i64>
     ensures { result ≡ number_in_range v }
 {
     if in_range(v) { Some(v) } else { None }
@@ -21,7 +21,7 @@ pub(crate) fn bounded(v: i64) -> Option<i64>
 pub(crate) fn times(a: Option<i64>, b: Option<i64>) -> Option<i64>
     ensures { result ≡ times a b }
 {
-    bounded(a?.checked_mul(b?)?)
+    number_in_range(a?.checked_mul(b?)?)
 }
 
 // The sum, or with `minus` the difference.
@@ -35,5 +35,5 @@ pub(crate) fn plus(a: Option<i64>, minus: bool, b: Option<i64>) -> Option<i64>
     } else {
         x.checked_add(y)?
     };
-    bounded(sum)
+    number_in_range(sum)
 }

@@ -7,7 +7,7 @@ ghost use Rattle.sps_expr.specs.Value.{scope_now, scope_of, value_of, is_late, I
 ghost use Rattle.sps_expr.specs.Symbol.{with_head};
 ghost use Rattle.sps_expr.specs.Steps.{symbol_at, plus, with_factor, is_operator, answer_so_far, first_factor, run, past_run, IsWord, IsWordResult, TakesWhatIsFound, LeadingSign, outcome_behind_sign};
 
-use crate::arithmetic::{bounded, plus, times};
+use crate::arithmetic::{number_in_range, plus, times};
 use crate::scope::Scope;
 use crate::symbols::Symbols;
 use crate::word::{Word, is_name, is_run_byte};
@@ -59,7 +59,7 @@ impl PartialResult {
     }
 
     // The value, where nothing more follows, or the least rule.
-    fn answer(self) -> Result<i64, Rule>
+    fn answer_so_far(self) -> Result<i64, Rule>
         ensures { result ≡ answer_so_far self }
     {
         if self.undefined {
@@ -172,7 +172,7 @@ fn word_result(word: &Word, scope: &Scope<'_>) -> Option<FactorResult>
         return Some(FactorResult {
             undefined: false,
             late: false,
-            value: bounded(word.number as i64),
+            value: number_in_range(word.number as i64),
         });
     }
     if word.long {
@@ -187,7 +187,7 @@ fn word_result(word: &Word, scope: &Scope<'_>) -> Option<FactorResult>
         Some((value, statement)) => Some(FactorResult {
             undefined: false,
             late: is_late(scope.before, statement),
-            value: bounded(value),
+            value: number_in_range(value),
         }),
     }
 }
@@ -215,7 +215,7 @@ fn factor<'a>(text: &'a [u8], scope: &Scope<'_>) -> Option<(FactorResult, &'a [u
         let location = FactorResult {
             undefined: false,
             late: false,
-            value: bounded(scope.here),
+            value: number_in_range(scope.here),
         };
         return Some((location, after));
     }
@@ -245,7 +245,7 @@ fn leading_sign(text: &[u8]) -> (bool, &[u8])
 }
 
 // The value of an expression whose sign stands before this text, or the least rule that it breaks.
-fn value_behind_sign(minus: bool, text: &[u8], scope: &Scope<'_>) -> Result<i64, Rule>
+fn outcome_behind_sign(minus: bool, text: &[u8], scope: &Scope<'_>) -> Result<i64, Rule>
     ensures { result ≡ outcome_behind_sign (scope_now scope.now) minus text.now }
 {
     let Some((first, behind)) = factor(text, scope) else {
@@ -269,7 +269,7 @@ fn value_behind_sign(minus: bool, text: &[u8], scope: &Scope<'_>) -> Result<i64,
         so_far = so_far.with_factor(*mark, next);
         rest = skip_blanks(behind);
     }
-    so_far.answer()
+    so_far.answer_so_far()
 }
 
 /// The value of a part of a statement, read as an expression, or the least of these rules that the part breaks.
@@ -325,6 +325,6 @@ impl Scope<'_> {
         ensures outside { HasNoReading (without_blanks part.now) → result ≡ Err BadExpression }
     {
         let (minus, text) = leading_sign(part);
-        value_behind_sign(minus, text, self)
+        outcome_behind_sign(minus, text, self)
     }
 }

@@ -3,7 +3,7 @@ use Rattle.std.proofs.Common.{◌≡◌, ℕ, ◌+◌, ◌-◌, ◌≤◌, List,
 use Rattle.std.proofs.lemmas.List.{append-nil}
 use Rattle.std.proofs.lemmas.List.Concat.{flat_map-append}
 use Rattle.std.proofs.lemmas.List.FromFn.{map-range_with_len_more}
-use Rattle.sps_generator.specs.Lines.{with_line_feed}
+use Rattle.outside_io.specs.Lines.{with_line_feed}
 use Rattle.sps_generator.specs.Generated.{next_state, state_at, draw_of, line_of_draw, statement_line, statement_lines}
 
 -- the state at the first statement

@@ -3,7 +3,8 @@ use Rattle.std.specs.Prelude.{ℕ, zero, suc, ◌+◌, ◌-◌, ◌*◌, ◌/◌
 use Rattle.std.specs.List.{range_with_len}
 use Rattle.sps_generator.specs.declared.operations.MadeOperation.{MadeOperation}
 use Rattle.sps_generator.specs.declared.operations.MadeOperation.TheVariants.{AddImmediate, SubtractImmediate, CompareImmediate}
-use Rattle.sps_generator.specs.Lines.{line, with_line_feed}
+use Rattle.outside_io.specs.Lines.{with_line_feed}
+use Rattle.sps_generator.specs.Lines.{line}
 
 -- The draws of a number.
 

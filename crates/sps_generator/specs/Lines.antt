@@ -13,7 +13,3 @@ operation_and_operands operation (b ∷ bs) = text_to_width 4 operation ++ b ∷
 -- A LINE: the label from column 6, the operation and the operands
 abbrev pub line : List ℕ → List ℕ → List ℕ → List ℕ
 line label operation operands = replicate 5 32 ++ (text_to_width 6 label ++ operation_and_operands operation operands)
-
--- a line is ended by LF
-abbrev pub with_line_feed : List ℕ → List ℕ
-with_line_feed text = text ++ 10 ∷ []

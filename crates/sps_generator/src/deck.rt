@@ -1,10 +1,10 @@
 // The deck of a number.
 ghost use Rattle.std.specs.Prelude.{◌≡◌, ◌<◌, ◌≤◌, ◌++◌, flat_map, IfOk, OnOk};
-ghost use Rattle.sps_generator.specs.Lines.{with_line_feed};
+ghost use Rattle.outside_io.specs.Lines.{with_line_feed};
 ghost use Rattle.sps_generator.specs.Generated.{next_state, draw_of, draw_value, label_of, sum_and, line_of_draw, closing_lines, source_deck};
 
 use crate::lines::push_line;
-use crate::operations::operation_of;
+use crate::operations::operation_of_draw;
 use std::alloc::{AllocError, Global};
 
 /// The source deck of so many statements by a number: the same deck for the same two numbers, on any machine.
@@ -41,7 +41,7 @@ fn next_state(state: u64) -> u64
 }
 
 // The value of a draw.
-fn value_of(draw: u64) -> u64
+fn draw_value(draw: u64) -> u64
     ensures { result ≡ draw_value draw }
 {
     draw / 3 % 1000
@@ -63,11 +63,11 @@ fn push_statement(
     ensures { OnOk result (source.new.items
         ≡ source.old.items ++ with_line_feed (line_of_draw statement draw)) }
 {
-    let operands = format!(in alloc; "SUM,{}", value_of(draw))?;
+    let operands = format!(in alloc; "SUM,{}", draw_value(draw))?;
     push_line(
         source,
         label_of(statement),
-        operation_of(draw).mnemonic(),
+        operation_of_draw(draw).mnemonic(),
         &operands,
     )?;
     Ok(())

@@ -1,6 +1,7 @@
 // The lines of a source deck, by the columns of the coding sheet.
 ghost use Rattle.std.specs.Prelude.{◌≡◌, ◌++◌, OnOk};
-ghost use Rattle.sps_generator.specs.Lines.{text_to_width, operation_and_operands, line, with_line_feed};
+ghost use Rattle.outside_io.specs.Lines.{with_line_feed};
+ghost use Rattle.sps_generator.specs.Lines.{text_to_width, operation_and_operands, line};
 
 use std::alloc::AllocError;
 

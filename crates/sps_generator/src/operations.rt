@@ -11,7 +11,7 @@ pub(crate) enum MadeOperation {
 }
 
 // The operation of a draw.
-pub(crate) fn operation_of(draw: u64) -> MadeOperation
+pub(crate) fn operation_of_draw(draw: u64) -> MadeOperation
     ensures { result ≡ operation_of_draw draw }
 {
     match draw % 3 {

@@ -1,12 +1,12 @@
 -- The statements that are still to come, and what comes of them.
 use Rattle.std.proofs.Common.{◌≡◌, ℕ, ◌+◌, Bool, List, [], ◌∷◌, refl, sym, ap, ◌∙◌, Option}
 use Rattle.sps_scan.specs.Statement.{statement_of}
-use Rattle.sps_pass_one.specs.Layout.{State, first, state_before_next, PassStep, pass_step, statements, statements_of}
+use Rattle.sps_pass_one.specs.Layout.{PassState, first, state_before_next, PassStep, pass_step, statements, statements_of}
 use Rattle.sps_pass_one.specs.Walk.{WalkText, walk_of, one_further, walk_past}
 
 -- what comes of the statements that are left is what comes of all
 pub record Ahead (T : Type 0) (answer : List PassStep → T) (w : WalkText) (whole : T) : Type 0 where
-  pub st : State
+  pub st : PassState
   pub number_is : st.number ≡ w.number
   pub ended_is : st.ended ≡ w.ended
   pub head_is : st.head ≡ w.head

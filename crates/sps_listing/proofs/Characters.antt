@@ -5,7 +5,7 @@ use Rattle.std.specs.Prelude.{unwrap_or, encode_utf8, None}
 use Rattle.std.specs.List.{list_all}
 use Rattle.std.proofs.lemmas.Bool.Decides.{nat_tests}
 use Rattle.digit_core.specs.declared.Digit.{Digit}
-use Rattle.digit_core.specs.Cell.{is_value, same_flag, same_digit}
+use Rattle.digit_core.specs.Cell.{is_cell_value, same_flag, same_digit}
 use Rattle.card_code.specs.Characters.{char_in, object_char, object_table, DigitEntry}
 use Rattle.sps_expr.proofs.Cases.{by_bool, and_parts}
 
@@ -27,11 +27,11 @@ one_byte c d e =
     let ascii : c < 128 = rw e (object_char-ascii d) in
     (ascii, length-encode c ∙ len_utf8_ascii c ascii)
 
-no_entry : (es : List DigitEntry) (d : Digit) → list_all (λ e. is_value e.digit.value) es ≡ true → is_value d.value ≡ false → char_in es d ≡ None
+no_entry : (es : List DigitEntry) (d : Digit) → list_all (λ e. is_cell_value e.digit.value) es ≡ true → is_cell_value d.value ≡ false → char_in es d ≡ None
 unfolding char_in
 no_entry [] d all bad = refl
 no_entry (e ∷ es) d all bad =
-    let parts = and_parts (is_value e.digit.value) (list_all (λ e. is_value e.digit.value) es) all in
+    let parts = and_parts (is_cell_value e.digit.value) (list_all (λ e. is_cell_value e.digit.value) es) all in
     by_bool (same_digit e.digit d)
     (λ t.
     let test = (and_parts (same_flag e.digit.flag d.flag) (e.digit.value == d.value) t).1 in
@@ -41,5 +41,5 @@ no_entry (e ∷ es) d all bad =
     (λ f. rw f (no_entry es d parts.1 bad))
 
 -- a digit that no cell can hold has a blank for its character
-pub blank_char : (d : Digit) → is_value d.value ≡ false → object_char d ≡ 32
+pub blank_char : (d : Digit) → is_cell_value d.value ≡ false → object_char d ≡ 32
 blank_char d bad = rw (no_entry object_table d refl bad) refl

@@ -10,7 +10,7 @@ use Rattle.digit_core.specs.declared.Digit.{Digit}
 use Rattle.card_code.specs.Characters.{object_char}
 use Rattle.sps_expr.proofs.Cases.{by_bool}
 use Rattle.sps_pass_two.specs.declared.image.Piece.{Piece}
-use Rattle.sps_pass_two.specs.Image.{Run}
+use Rattle.sps_pass_two.specs.Image.{DigitRun}
 use Rattle.sps_pass_two.specs.Types.{run_of}
 use Rattle.sps_listing.specs.Texts.{object_text, image_line, image_lines, digits_text, piece_text, image_text}
 
@@ -52,7 +52,7 @@ unfolding image_text
 no_piece ps i h = rw (drop_all i ps h) refl
 
 -- what holds of each run holds of a piece
-pub piece_at : (P : Run → Type 0) (runs : List Run) (ps : List Piece) (i : ℕ) (p : Piece) → map run_of ps ≡ runs → All P runs → i < length ps → p ≡ slice_index_or ps i p → P (run_of p)
+pub piece_at : (P : DigitRun → Type 0) (runs : List DigitRun) (ps : List Piece) (i : ℕ) (p : Piece) → map run_of ps ≡ runs → All P runs → i < length ps → p ≡ slice_index_or ps i p → P (run_of p)
 piece_at P runs ps i p same all h e =
     let each : All P (map run_of ps) = rw same all in
     let there : i < length (map run_of ps) = simp length-map h in

@@ -1,7 +1,7 @@
 pub mod Sending
 pub mod ImageLines
 pub mod Characters
-pub mod Placed
+pub mod PlacedStatements
 pub mod Lines
 pub mod Ahead
 pub mod OtherStatements

@@ -2,11 +2,10 @@
 use Rattle.std.proofs.Common.{◌≡◌, ℕ, suc, ◌+◌, ◌-◌, ◌≤◌, ◌<◌, List, [], ◌∷◌, ◌++◌, length, refl, sym, ap, ◌∙◌, arith, Option}
 use Rattle.std.proofs.lemmas.List.{append_assoc}
 use Rattle.std.specs.Prelude.{slice_index_or}
-use Rattle.outside_io.specs.Lines.{texts_of, first_text, behind_line}
+use Rattle.outside_io.specs.Lines.{texts_of, first_text, behind_line, with_line_feed}
 use Rattle.outside_io.proofs.WholeLines.{texts_of-front}
 use Rattle.sps_ops.specs.declared.rule.Rule.{Rule}
 use Rattle.sps_scan.specs.Statement.{StatementText, statement_of}
-use Rattle.report_lines.specs.Numbers.{with_line_feed}
 use Rattle.sps_listing.specs.Texts.{source_line_at, shown_text, behind_blank, refusal_head, refusal_line}
 
 -- the line that stands behind so many others

@@ -5,17 +5,17 @@ use Rattle.std.proofs.lemmas.Bool.Decides.{nat_tests}
 use Rattle.sps_scan.specs.Statement.{StatementText, statement_of}
 use Rattle.sps_expr.specs.Symbol.{SymbolEntry}
 use Rattle.sps_expr.proofs.Cases.{by_bool}
-use Rattle.sps_pass_one.specs.Layout.{State, PassStep, pass_step, is_label, with_label}
+use Rattle.sps_pass_one.specs.Layout.{PassState, PassStep, pass_step, is_label, with_label}
 use Rattle.sps_listing.specs.Others.{head_in_steps, line_rule, label_columns, has_lost_label, with_lost_label, lacks_symbol, suffices, first_together, number_and_rule}
 
 -- the statement is the one with the number
-pub head_here : (st : State) (line : List ℕ) (steps : List PassStep) (number statement : ℕ) (head : Option ℕ) → st.number ≡ number → st.head ≡ head → number ≡ statement → head_in_steps statement (pass_step st line ∷ steps) ≡ Some head
+pub head_here : (st : PassState) (line : List ℕ) (steps : List PassStep) (number statement : ℕ) (head : Option ℕ) → st.number ≡ number → st.head ≡ head → number ≡ statement → head_in_steps statement (pass_step st line ∷ steps) ≡ Some head
 head_here st line steps number statement head e_number e_head e =
     let t : (st.number == statement) ≡ true = grind (arith, nat_tests) in
     rw (t, e_head) refl
 
 -- it is another one
-pub head_later : (st : State) (line : List ℕ) (steps : List PassStep) (number statement : ℕ) → st.number ≡ number → number ≢ statement → head_in_steps statement (pass_step st line ∷ steps) ≡ head_in_steps statement steps
+pub head_later : (st : PassState) (line : List ℕ) (steps : List PassStep) (number statement : ℕ) → st.number ≡ number → number ≢ statement → head_in_steps statement (pass_step st line ∷ steps) ≡ head_in_steps statement steps
 head_later st line steps number statement e_number e =
     let t : (st.number == statement) ≡ false = grind (arith, nat_tests) in
     rw t refl
@@ -55,7 +55,7 @@ module _ (head : Option ℕ) (part : List ℕ) (symbols : List SymbolEntry) (x :
       rw (f, n) refl)
 
 -- what the walk knows of a statement is what the step says
-module _ (st : State) (line : List ℕ) (number : ℕ) (is_ended : Bool) (head : Option ℕ) (s : StatementText) (name : List ℕ) (e_number : st.number ≡ number) (e_ended : st.ended ≡ is_ended) (e_head : st.head ≡ head) (e_s : s ≡ statement_of line) (e_name : name ≡ label_columns line) where
+module _ (st : PassState) (line : List ℕ) (number : ℕ) (is_ended : Bool) (head : Option ℕ) (s : StatementText) (name : List ℕ) (e_number : st.number ≡ number) (e_ended : st.ended ≡ is_ended) (e_head : st.head ≡ head) (e_s : s ≡ statement_of line) (e_name : name ≡ label_columns line) where
   pub lost_is : (lost : Bool) → lost ≡ (is_some (line_rule s.shape) && (not is_ended && is_label name)) → lost ≡ has_lost_label (pass_step st line)
   lost_is lost e = rw (e_s, e_name, ← e_ended) at e
 

@@ -9,7 +9,8 @@ use Rattle.sps_scan.specs.Statement.{statement_of}
 use Rattle.sps_pass_one.specs.Layout.{lines_of_source}
 use Rattle.sps_pass_two.specs.declared.assembled.Assembled.{Assembled}
 use Rattle.sps_pass_two.specs.{PlacedText, text_of_placed}
-use Rattle.report_lines.specs.Numbers.{digits_to_width, with_line_feed, with_blank}
+use Rattle.outside_io.specs.Lines.{with_line_feed}
+use Rattle.report_lines.specs.Numbers.{digits_to_width, with_blank}
 use Rattle.sps_listing.specs.Texts.{object_text}
 
 -- the placed statements of a program

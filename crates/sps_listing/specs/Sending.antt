@@ -7,7 +7,7 @@ use Rattle.digit_core.specs.declared.Digit.{Digit}
 use Rattle.sps_ops.specs.declared.rule.Rule.{Rule}
 use Rattle.sps_pass_two.specs.declared.assembled.Assembled.{Assembled}
 use Rattle.sps_pass_two.specs.declared.assembled.Placed.{Placed}
-use Rattle.sps_pass_two.specs.{Run, text_of_placed}
+use Rattle.sps_pass_two.specs.{DigitRun, text_of_placed}
 use Rattle.sps_listing.specs.Texts.{image_line, piece_text, image_text, refusal_line}
 use Rattle.sps_listing.specs.Listing.{listing_line, listing_text, placed_texts}
 
@@ -15,10 +15,10 @@ use Rattle.sps_listing.specs.Listing.{listing_line, listing_text, placed_texts}
 abbrev pub SendsImageLine : Seen → Seen → ℕ → List Digit → Sent → Type 0
 SendsImageLine old new address digits sent = Sends old new units.Image (image_line address digits) sent
 
-abbrev pub SendsPiece : Seen → Seen → Run → Sent → Type 0
+abbrev pub SendsPiece : Seen → Seen → DigitRun → Sent → Type 0
 SendsPiece old new piece sent = Sends old new units.Image (piece_text piece) sent
 
-abbrev pub SendsImage : Seen → Seen → List Run → Sent → Type 0
+abbrev pub SendsImage : Seen → Seen → List DigitRun → Sent → Type 0
 SendsImage old new pieces sent = Sends old new units.Image (image_text pieces) sent
 
 -- a line of the listing and the whole listing of a source are written on Listing

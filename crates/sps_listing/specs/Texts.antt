@@ -1,6 +1,6 @@
 -- The text of the image, and the line of a refusal.
 use Rattle.std.specs.Prelude.{ℕ, zero, suc, ◌+◌, ◌/◌, Bool, ◌&&◌, ◌||◌, ◌==◌, nat_le, if◌then◌else◌, Option, Some, None, List, [], ◌∷◌, ◌++◌, length, take, drop, map, codes, slice_index_or}
-use Rattle.outside_io.specs.Lines.{texts_of}
+use Rattle.outside_io.specs.Lines.{texts_of, with_line_feed}
 use Rattle.card_code.specs.Characters.{object_char}
 use Rattle.digit_core.specs.declared.Digit.{Digit}
 use Rattle.sps_ops.specs.declared.rule.Rule.{Rule}
@@ -10,8 +10,8 @@ use Rattle.line_words.specs.Blanks.{without_outer_blanks}
 use Rattle.sps_scan.specs.Statement.{StatementText, statement_of}
 use Rattle.sps_expr.specs.Grammar.{is_nothing}
 use Rattle.sps_pass_one.specs.Measure.{part_at}
-use Rattle.sps_pass_two.specs.Image.{Run}
-use Rattle.report_lines.specs.Numbers.{digits_to_width, with_line_feed, with_blank}
+use Rattle.sps_pass_two.specs.Image.{DigitRun}
+use Rattle.report_lines.specs.Numbers.{digits_to_width, with_blank}
 
 -- digits as object characters
 abbrev pub object_text : List Digit → List ℕ
@@ -33,11 +33,11 @@ abbrev pub digits_text : ℕ → List Digit → List ℕ
 digits_text from ds = image_lines ((length ds + 49) / 50) from ds
 
 -- a piece of the image
-abbrev pub piece_text : Run → List ℕ
+abbrev pub piece_text : DigitRun → List ℕ
 piece_text p = digits_text p.from p.digits
 
 -- THE TEXT OF THE IMAGE, piece by piece
-unfoldable pub image_text : List Run → List ℕ
+unfoldable pub image_text : List DigitRun → List ℕ
 image_text [] = []
 image_text (p ∷ ps) = piece_text p ++ image_text ps
 

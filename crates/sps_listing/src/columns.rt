@@ -2,7 +2,7 @@
 ghost use Rattle.std.specs.Prelude.{◌≡◌, ◌≤◌, ◌+◌, ◌++◌, length};
 ghost use Rattle.arrayvec.specs.ArrayString.{array_string_len};
 ghost use Rattle.card_code.specs.Characters.{object_char};
-ghost use Rattle.digit_core.specs.Cell.{is_value};
+ghost use Rattle.digit_core.specs.Cell.{is_cell_value};
 ghost use Rattle.sps_scan.specs.Statement.{statement_of};
 ghost use Rattle.sps_pass_two.specs.Making.{text_of_placed};
 ghost use Rattle.sps_listing.specs.Texts.{object_text};
@@ -17,7 +17,7 @@ use sps_scan::holds_nothing;
 
 // A cell can hold the value.
 fn is_value(value: u8) -> bool
-    ensures { result ≡ is_value value }
+    ensures { result ≡ is_cell_value value }
 {
     value <= 10 || value == 12 || value == 15
 }

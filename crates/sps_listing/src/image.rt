@@ -2,7 +2,7 @@
 ghost use Rattle.std.specs.Prelude.{◌≡◌, ◌≤◌, length};
 ghost use Rattle.std.specs.List.{All};
 ghost use Rattle.digit_core.specs.Cell.{IsGood};
-ghost use Rattle.sps_pass_two.specs.{IsPiece, IsBelow, run_of};
+ghost use Rattle.sps_pass_two.specs.{IsPiece, IsRunBelow, run_of};
 ghost use Rattle.sps_listing.specs.Texts.{image_line};
 ghost use Rattle.sps_listing.specs.Sending.{SendsImageLine, SendsPiece, SendsImage};
 ghost use Rattle.digit_core.specs.declared.TheConstants.{MOST_POSITIONS};
@@ -42,7 +42,7 @@ fn write_line<H: Host>(address: u32, digits: &[Digit], host: &mut H) -> Sent
 // Writes the lines of a piece.
 fn write_piece<H: Host>(piece: &Piece, host: &mut H) -> Sent
     requires piece { IsPiece (run_of piece.now) }
-    requires below { IsBelow MOST_POSITIONS (run_of piece.now) }
+    requires below { IsRunBelow MOST_POSITIONS (run_of piece.now) }
     ensures { SendsPiece (H.seen host.old) (H.seen host.new) (run_of piece.now) result }
 {
     let mut address = piece.from;

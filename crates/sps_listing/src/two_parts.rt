@@ -1,7 +1,7 @@
 // Lines that are made of two parts.
 ghost use Rattle.std.specs.Prelude.{◌≡◌, ◌++◌, IfSome, true};
 ghost use Rattle.outside_io.specs.{Sends, is_output};
-ghost use Rattle.report_lines.specs.Numbers.{with_line_feed};
+ghost use Rattle.outside_io.specs.Lines.{with_line_feed};
 
 use arrayvec::ArrayVec;
 use outside_io::{Host, Sent, Unit, write_all};

@@ -7,11 +7,11 @@ use Rattle.std.proofs.lemmas.List.Elements.{Contains-append_left, Contains-appen
 use Rattle.instruction_table.specs.declared.InstructionRow.{InstructionRow}
 use Rattle.sps_ops.specs.declared.operation.Operation.{Operation}
 use Rattle.sps_ops.specs.declared.table.DeclarativeRow.{DeclarativeRow}
-use Rattle.line_words.specs.Rows.{Row, row_from_table, value_by_name, with_values}
-use Rattle.sps_ops.specs.Operations.{operations, opcodes, by_digits, mnemonics, unique_mnemonics, declaratives, plain, whole, declared}
+use Rattle.line_words.specs.Rows.{NameRow, row_from_table, value_by_name, with_values}
+use Rattle.sps_ops.specs.Operations.{operations, opcodes, by_digits, mnemonics, unique_mnemonics, declaratives, plain_operation, whole, declared}
 
 -- each name stands once
-abbrev pub names_once : {A : Type 0} → List (Row A) → Bool
+abbrev pub names_once : {A : Type 0} → List (NameRow A) → Bool
 names_once [] = true
 names_once (r ∷ rs) = is_none (value_by_name rs r.name) && names_once rs
 
@@ -29,7 +29,7 @@ other_name : {A : Type 0} (o : Option A) (v : A) (x : Option A) → is_none o �
 other_name o v x none some = let k = rw some at none in cc
 
 -- where each name stands once, a row's name stands for its value
-row_found : {A : Type 0} (rows : List (Row A)) (r : Row A) (k : ℕ) → names_once rows ≡ true → k < length rows → slice_index_or rows k r ≡ r → value_by_name rows r.name ≡ Some r.value
+row_found : {A : Type 0} (rows : List (NameRow A)) (r : NameRow A) (k : ℕ) → names_once rows ≡ true → k < length rows → slice_index_or rows k r ≡ r → value_by_name rows r.name ≡ Some r.value
 unfolding value_by_name
 row_found [] r k once inside is = absurd (omega arith)
 row_found (s ∷ ss) r zero once inside is = rw (is, (bytes_eq-Decides r.name r.name).1 refl)
@@ -43,7 +43,7 @@ row_found (s ∷ ss) r (suc k) once inside is =
     step refl
 
 -- an operation's row is found by its name
-pub operation_found : (r : Row Operation) → Contains operations r → value_by_name operations r.name ≡ Some r.value
+pub operation_found : (r : NameRow Operation) → Contains operations r → value_by_name operations r.name ≡ Some r.value
 operation_found r row = row_found operations r row.0 operations_once row.1 row.2
 
 -- no operation has an empty name
@@ -53,36 +53,36 @@ nothing_unnamed [] empty = refl
 nothing_unnamed (b ∷ bs) empty = let none : length (b ∷ bs) ≡ 0 = grind (arith, nat_tests) in absurd (omega arith)
 
 -- a row of a table is one of what is made of its values
-made_at : {A B : Type 0} (f : A → B) (rows : List (Row A)) (r : Row A) (k : ℕ) → k < length rows → slice_index_or rows k r ≡ r → Contains (with_values f rows) (record { name = r.name; value = f r.value })
+made_at : {A B : Type 0} (f : A → B) (rows : List (NameRow A)) (r : NameRow A) (k : ℕ) → k < length rows → slice_index_or rows k r ≡ r → Contains (with_values f rows) (record { name = r.name; value = f r.value })
 made_at f [] r k inside is = absurd (omega arith)
-made_at {A} {B} f (s ∷ ss) r zero inside is = (0, omega arith, ap (λ (x : Row A). record { name = x.name; value = f x.value }) is)
+made_at {A} {B} f (s ∷ ss) r zero inside is = (0, omega arith, ap (λ (x : NameRow A). record { name = x.name; value = f x.value }) is)
 made_at f (s ∷ ss) r (suc k) inside is = let c = made_at f ss r k (omega arith) is in (suc c.0, omega (arith, c.1), c.2)
 
-made : {A B : Type 0} (f : A → B) (rows : List (Row A)) (r : Row A) → Contains rows r → Contains (with_values f rows) (record { name = r.name; value = f r.value })
+made : {A B : Type 0} (f : A → B) (rows : List (NameRow A)) (r : NameRow A) → Contains rows r → Contains (with_values f rows) (record { name = r.name; value = f r.value })
 made f rows r c = made_at f rows r c.0 c.1 c.2
 
 -- the table of operations has three parts
-abbrev by_opcode : List (Row Operation)
-by_opcode = with_values plain opcodes
+abbrev by_opcode : List (NameRow Operation)
+by_opcode = with_values plain_operation opcodes
 
-abbrev by_whole : List (Row Operation)
+abbrev by_whole : List (NameRow Operation)
 by_whole = with_values whole unique_mnemonics
 
-abbrev by_declared : List (Row Operation)
+abbrev by_declared : List (NameRow Operation)
 by_declared = with_values declared declaratives
 
 -- the operation of a mnemonic
-pub by_mnemonic : (name : List ℕ) (i : InstructionRow) → Contains mnemonics (record { name = name; value = i }) → value_by_name operations name ≡ Some (plain i)
+pub by_mnemonic : (name : List ℕ) (i : InstructionRow) → Contains mnemonics (record { name = name; value = i }) → value_by_name operations name ≡ Some (plain_operation i)
 by_mnemonic name i c =
-    let r : Row Operation = record { name = name; value = plain i } in
+    let r : NameRow Operation = record { name = name; value = plain_operation i } in
     operation_found r (Contains-append_left by_opcode (by_whole ++ by_declared) r
-    (made plain opcodes (record { name = name; value = i })
+    (made plain_operation opcodes (record { name = name; value = i })
     (Contains-append_left mnemonics (map by_digits mnemonics) (record { name = name; value = i }) c)))
 
 -- of a unique mnemonic
 pub by_unique : (name : List ℕ) (u : ℕ × ℕ) → Contains unique_mnemonics (record { name = name; value = u }) → value_by_name operations name ≡ Some (whole u)
 by_unique name u c =
-    let r : Row Operation = record { name = name; value = whole u } in
+    let r : NameRow Operation = record { name = name; value = whole u } in
     operation_found r (Contains-append_right by_opcode (by_whole ++ by_declared) r
     (Contains-append_left by_whole by_declared r
     (made whole unique_mnemonics (record { name = name; value = u }) c)))
@@ -90,7 +90,7 @@ by_unique name u c =
 -- of a declarative
 pub by_declarative : (name : List ℕ) (d : DeclarativeRow) → Contains declaratives (record { name = name; value = d }) → value_by_name operations name ≡ Some (declared d)
 by_declarative name d c =
-    let r : Row Operation = record { name = name; value = declared d } in
+    let r : NameRow Operation = record { name = name; value = declared d } in
     operation_found r (Contains-append_right by_opcode (by_whole ++ by_declared) r
     (Contains-append_right by_whole by_declared r
     (made declared declaratives (record { name = name; value = d }) c)))

@@ -2,7 +2,7 @@
 ghost use Rattle.std.specs.Prelude.{◌≡◌, ◌<◌, map, length, IfSome, Some};
 ghost use Rattle.line_words.specs.Rows.{row_from_table, value_by_name, EachRowStandsFor, HasRow};
 ghost use Rattle.line_words.specs.Blanks.{without_outer_blanks};
-ghost use Rattle.sps_ops.specs.Operations.{lookup_of, operations, plain, whole, opcodes, by_digits, two_digit_text, mnemonics, unique_mnemonics, declaratives, declared};
+ghost use Rattle.sps_ops.specs.Operations.{lookup_of, operations, plain_operation, whole, opcodes, by_digits, two_digit_text, mnemonics, unique_mnemonics, declaratives, declared};
 
 use crate::{Declarative, Operation};
 use instruction_table::{INSTRUCTIONS, InstructionRow, OperandUse};
@@ -138,7 +138,7 @@ fn quick_operation(name: &[u8]) -> Option<Operation>
     let instructions = INSTRUCTIONS.len();
     if k < instructions {
         let row = row_at(&INSTRUCTIONS, k, name)?;
-        return Some(plain(row));
+        return Some(plain_operation(row));
     }
     let k = k - instructions;
     let unique = UNIQUE_MNEMONICS.len();
@@ -182,7 +182,7 @@ fn row_at<T: Copy>(rows: &[(&str, T)], k: usize, name: &[u8]) -> Option<T>
 }
 
 // The operation of a name.
-#[tactic(auto, using(crate::proofs::Joined::operation_by_table))]
+#[tactic(auto, using(crate::proofs::JoinedTables::operation_by_table))]
 fn operation_of(name: &[u8]) -> Option<Operation>
     ensures { result ≡ value_by_name operations name.now }
 {
@@ -199,12 +199,12 @@ fn operation_of(name: &[u8]) -> Option<Operation>
 // The same, each table searched for it.
 #[cold]
 #[inline(never)]
-#[tactic(auto, using(crate::proofs::Joined::operation_by_table))]
+#[tactic(auto, using(crate::proofs::JoinedTables::operation_by_table))]
 fn searched_operation(name: &[u8]) -> Option<Operation>
     ensures { result ≡ value_by_name operations name.now }
 {
     if let Some(row) = row_of(name) {
-        return Some(plain(row));
+        return Some(plain_operation(row));
     }
     if let Some(named) = unique_mnemonic(name) {
         return Some(whole(named));
@@ -214,7 +214,7 @@ fn searched_operation(name: &[u8]) -> Option<Operation>
 }
 
 // The row of an instruction, by its mnemonic or the two digits of its opcode.
-#[tactic(auto, using(crate::proofs::Joined::opcode_by_table))]
+#[tactic(auto, using(crate::proofs::JoinedTables::opcode_by_table))]
 fn row_of(name: &[u8]) -> Option<InstructionRow>
     ensures { result ≡ value_by_name opcodes name.now }
 {
@@ -259,7 +259,7 @@ fn find_digits(rows: &[(&str, InstructionRow)], name: &[u8]) -> Option<Instructi
     ensures { result ≡ value_by_name (map by_digits (map row_from_table rows.now)) name.now }
 {
     for (_, row) in rows {
-        if name == two_digits(row.0).as_slice() {
+        if name == two_digit_text(row.0).as_slice() {
             return Some(*row);
         }
     }
@@ -267,15 +267,15 @@ fn find_digits(rows: &[(&str, InstructionRow)], name: &[u8]) -> Option<Instructi
 }
 
 // The characters of a number below 100.
-fn two_digits(n: u8) -> [u8; 2]
+fn two_digit_text(n: u8) -> [u8; 2]
     ensures { result ≡ two_digit_text n }
 {
     [b'0' + n / 10, b'0' + n % 10]
 }
 
 // An instruction by its row. It is immediate, so that its Q7 gets a flag, where Q is a field in the instruction itself.
-fn plain(row: InstructionRow) -> Operation
-    ensures { result ≡ plain row }
+fn plain_operation(row: InstructionRow) -> Operation
+    ensures { result ≡ plain_operation row }
 {
     let InstructionRow(opcode, _, uses, _) = row;
     Operation::Instruction {

@@ -12,17 +12,17 @@ use Rattle.sps_scan.specs.Statement.{StatementText}
 use Rattle.sps_pass_one.specs.declared.fault.Fault.{Fault}
 use Rattle.sps_pass_one.specs.declared.ask.Ask.{Ask}
 use Rattle.sps_pass_one.specs.declared.ask.Form.{Form}
-use Rattle.sps_pass_one.specs.declared.ask.Reading.{Reading}
-use Rattle.sps_pass_one.specs.declared.ask.Reading.TheVariants.{Expression, TwoDigits}
-use Rattle.sps_pass_one.specs.Measure.{Answer, answer, answer_if, in_bounds, read_as, part_at, lacks, lacking_faults, measure, size_of, natural_address}
+use Rattle.sps_pass_one.specs.declared.ask.OperandReading.{OperandReading}
+use Rattle.sps_pass_one.specs.declared.ask.OperandReading.TheVariants.{Expression, TwoDigits}
+use Rattle.sps_pass_one.specs.Measure.{OperandAnswer, answer, answer_if, in_bounds, read_as, part_at, lacks, lacking_faults, measure, size_of, natural_address}
 use Rattle.sps_pass_one.specs.Laws.{AreAlike}
 
 -- two answers: both without faults or none, and the same value
-record Alike (a b : Answer) : Type 0 where
+record Alike (a b : OperandAnswer) : Type 0 where
   faults : is_nothing a.faults ≡ is_nothing b.faults
   value : a.value ≡ b.value
 
-same : (a : Answer) → Alike a a
+same : (a : OperandAnswer) → Alike a a
 same a = record { faults = refl; value = refl }
 
 bound_alike : (q : Ask) (r : Result ℤ Rule) → Alike (in_bounds q (undefined_for_late r)) (in_bounds q r)
@@ -41,7 +41,7 @@ module _ (head : Option ℕ) (earlier all : List SymbolEntry) (here : ℤ) (befo
   abbrev late : Scope
   late = scope_of head all here (Some before)
 
-  read_alike : (q : Ask) (reading : Reading) (part : List ℕ) → Alike (in_bounds q (read_as reading early part)) (in_bounds q (read_as reading late part))
+  read_alike : (q : Ask) (reading : OperandReading) (part : List ℕ) → Alike (in_bounds q (read_as reading early part)) (in_bounds q (read_as reading late part))
   read_alike q TwoDigits part = same _
   read_alike q Expression part = rw (early_value head earlier all here before known part) (bound_alike q (value_of late part))
 

@@ -6,25 +6,25 @@ use Rattle.line_words.specs.Blanks.{without_outer_blanks}
 use Rattle.sps_expr.specs.Symbol.{SymbolEntry}
 use Rattle.sps_pass_one.specs.declared.place.Place.{Place}
 use Rattle.sps_pass_one.specs.declared.place.Placing.{Placing}
-use Rattle.sps_pass_one.specs.Layout.{State, first, state_before_next, counts_if, placing_if, placing, symbols_if, pass_step, statements, behind, statement_place, place_by_placing, statement_places, symbols_of}
+use Rattle.sps_pass_one.specs.Layout.{PassState, first, state_before_next, counts_if, placing_if, placing, symbols_if, pass_step, statements, state_behind, statement_place, place_by_placing, statement_places, symbols_of}
 use Rattle.sps_pass_one.specs.Walk.{WalkText, walk_of, one_further, walk_past}
 use Rattle.sps_pass_one.proofs.Walking.{Passes}
 
 -- a state by what a walk has
-abbrev pub state : WalkText → ℕ → List SymbolEntry → State
+abbrev pub state : WalkText → ℕ → List SymbolEntry → PassState
 state w at symbols = record { number = w.number; at = at; head = w.head; symbols = symbols; ended = w.ended }
 
 -- the places so far, and those of the lines that are left; the symbols behind all
-pub record Onward (done : List Place) (st : State) (lines : List (List ℕ)) (source : List ℕ) : Type 0 where
+pub record Onward (done : List Place) (st : PassState) (lines : List (List ℕ)) (source : List ℕ) : Type 0 where
   pub places : done ++ map statement_place (statements st lines) ≡ statement_places source
-  pub symbols : (behind st lines).symbols ≡ symbols_of source
+  pub symbols : (state_behind st lines).symbols ≡ symbols_of source
 
-pub ended : (done : List Place) (st : State) (lines : List (List ℕ)) (source : List ℕ) → lines ≡ [] → Onward done st lines source → (done ≡ statement_places source) × (st.symbols ≡ symbols_of source)
-unfolding statements behind
+pub ended : (done : List Place) (st : PassState) (lines : List (List ℕ)) (source : List ℕ) → lines ≡ [] → Onward done st lines source → (done ≡ statement_places source) × (st.symbols ≡ symbols_of source)
+unfolding statements state_behind
 ended done st lines source none o = (sym (append-nil done) ∙ rw none at o.places, rw none at o.symbols)
 
-walk_on : (done : List Place) (st : State) (line : List ℕ) (lines left : List (List ℕ)) (source : List ℕ) → lines ≡ line ∷ left → Onward done st lines source → Onward (done ++ statement_place (pass_step st line) ∷ []) (state_before_next st (statement_of line)) left source
-unfolding statements behind state_before_next
+walk_on : (done : List Place) (st : PassState) (line : List ℕ) (lines left : List (List ℕ)) (source : List ℕ) → lines ≡ line ∷ left → Onward done st lines source → Onward (done ++ statement_place (pass_step st line) ∷ []) (state_before_next st (statement_of line)) left source
+unfolding statements state_behind state_before_next
 walk_on done st line lines left source e o =
     let p = rw e at o.places in
     let q = rw e at o.symbols in

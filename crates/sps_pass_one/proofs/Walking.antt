@@ -6,10 +6,10 @@ use Rattle.sps_scan.specs.declared.statement.Shape.{Shape}
 use Rattle.sps_scan.specs.Statement.{StatementText, statement_of}
 use Rattle.sps_pass_one.specs.declared.walk.SourceLine.{SourceLine}
 use Rattle.sps_pass_one.specs.Layout.{counts_if}
-use Rattle.sps_pass_one.specs.Walk.{WalkText, lines_left, one_further, walk_past, ComesTo}
+use Rattle.sps_pass_one.specs.Walk.{WalkText, source_lines_left, one_further, walk_past, ComesToLine}
 
 -- a line more
-pub lines_front : (number : ℕ) (rest line behind_it : List ℕ) → number ≤ 20001 → 0 < length rest → line ≡ first_text rest → behind_it ≡ behind_line rest → lines_left number rest ≡ line ∷ lines_left (number + 1) behind_it
+pub lines_front : (number : ℕ) (rest line behind_it : List ℕ) → number ≤ 20001 → 0 < length rest → line ≡ first_text rest → behind_it ≡ behind_line rest → source_lines_left number rest ≡ line ∷ source_lines_left (number + 1) behind_it
 lines_front number rest line behind_it n some e_line e_behind =
     let k : 20002 - number ≡ suc (20002 - (number + 1)) = omega arith in
     rw (e_line, e_behind, k, texts_of-front rest some) refl
@@ -23,7 +23,7 @@ pub record Passes (w : WalkText) (line : List ℕ) (v : WalkText) : Type 0 where
   pub front : w.lines ≡ line ∷ v.lines
   pub behind : v ≡ walk_past (one_further w v.lines) (statement_of line)
 
-module _ (w n : WalkText) (x : SourceLine) (c : ComesTo w x n) where
+module _ (w n : WalkText) (x : SourceLine) (c : ComesToLine w x n) where
   pub head_stays : (head : Option ℕ) → head ≡ n.head → head ≡ w.head
   head_stays head e = e ∙ ap (λ (m : WalkText). m.head) c.further
 
@@ -41,7 +41,7 @@ pub number_behind : (w v : WalkText) (line : List ℕ) → Passes w line v → v
 number_behind w v line p = ap (λ (m : WalkText). m.number) p.behind
 
 -- whether the statement counts to which a walk came
-pub active_is : (w n : WalkText) (x : SourceLine) → ComesTo w x n → (ended active : Bool) (shape : Shape) → ended ≡ n.ended → active ≡ counts_if ended shape → active ≡ counts_if w.ended shape
+pub active_is : (w n : WalkText) (x : SourceLine) → ComesToLine w x n → (ended active : Bool) (shape : Shape) → ended ≡ n.ended → active ≡ counts_if ended shape → active ≡ counts_if w.ended shape
 active_is w n x c ended active shape e_ended e_active = rw (← ended_stays w n x c ended e_ended) e_active
 
 -- one line fewer is left

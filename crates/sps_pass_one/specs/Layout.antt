@@ -27,7 +27,7 @@ use Rattle.sps_pass_one.specs.Placing.{nothing_at, declared_placing, placing_of}
 
 -- what there is before a statement: its number, its location, the head in force, the symbols of the statements before it, and whether one
 -- of them is a DEND
-pub record State : Type 0 where
+pub record PassState : Type 0 where
   pub number : ℕ
   pub at : ℕ
   pub head : Option ℕ
@@ -35,7 +35,7 @@ pub record State : Type 0 where
   pub ended : Bool
 
 -- before the first statement
-abbrev pub first : State
+abbrev pub first : PassState
 first = record { number = 1; at = 402; head = None; symbols = []; ended = false }
 
 abbrev pub is_plain : Shape → Bool
@@ -46,7 +46,7 @@ is_plain shape = false
 abbrev pub counts_if : Bool → Shape → Bool
 counts_if ended shape = is_plain shape && not ended
 
-abbrev pub counts : State → StatementText → Bool
+abbrev pub counts : PassState → StatementText → Bool
 counts st s = counts_if st.ended s.shape
 
 abbrev pub operation_of : StatementText → Option Operation
@@ -69,7 +69,7 @@ abbrev pub placing_if : Bool → Option ℕ → List SymbolEntry → ℕ → Sta
 placing_if active head symbols at s = if active then placing_by head symbols at s (operation_of s) else nothing_at at
 
 -- where a statement puts its label and its digits
-unfoldable pub placing : State → StatementText → Placing
+unfoldable pub placing : PassState → StatementText → Placing
 placing st s = placing_if (counts st s) st.head st.symbols st.at s
 
 -- a label is letters and digits with a letter among them; its columns leave room for six
@@ -106,7 +106,7 @@ head_after head active s =
     if active && (is_head (operation_of s) && is_nothing (head_faults s)) then head_in s else head
 
 -- before the next statement
-unfoldable pub state_before_next : State → StatementText → State
+unfoldable pub state_before_next : PassState → StatementText → PassState
 state_before_next st s = record {
   number = st.number + 1;
   at = (placing st s).next;
@@ -117,22 +117,22 @@ state_before_next st s = record {
 
 -- a statement: what there is before it, its line, and the texts of the line
 pub record PassStep : Type 0 where
-  pub before : State
+  pub before : PassState
   pub line : List ℕ
   pub text : StatementText
 
-abbrev pub pass_step : State → List ℕ → PassStep
+abbrev pub pass_step : PassState → List ℕ → PassStep
 pass_step st line = record { before = st; line = line; text = statement_of line }
 
 -- the statements of some lines, each where it stands
-unfoldable pub statements : State → List (List ℕ) → List PassStep
+unfoldable pub statements : PassState → List (List ℕ) → List PassStep
 statements st [] = []
 statements st (line ∷ lines) = pass_step st line ∷ statements (state_before_next st (statement_of line)) lines
 
 -- what there is behind the last of some lines
-unfoldable pub behind : State → List (List ℕ) → State
-behind st [] = st
-behind st (line ∷ lines) = behind (state_before_next st (statement_of line)) lines
+unfoldable pub state_behind : PassState → List (List ℕ) → PassState
+state_behind st [] = st
+state_behind st (line ∷ lines) = state_behind (state_before_next st (statement_of line)) lines
 
 -- how many statements a source may have at most
 abbrev pub most_statements : ℕ
@@ -147,7 +147,7 @@ abbrev pub statements_of : List ℕ → List PassStep
 statements_of source = statements first (lines_of_source source)
 
 abbrev pub symbols_of : List ℕ → List SymbolEntry
-symbols_of source = (behind first (lines_of_source source)).symbols
+symbols_of source = (state_behind first (lines_of_source source)).symbols
 
 -- where a statement stands
 abbrev pub place_by_placing : ℕ → Placing → Place

@@ -13,8 +13,8 @@ use Rattle.sps_scan.specs.Statement.{StatementText, statement_text}
 use Rattle.sps_expr.specs.declared.scope.Scope.{Scope as GivenScope}
 use Rattle.sps_expr.specs.Value.{Scope, scope_now, value_of}
 use Rattle.sps_pass_one.specs.declared.fault.Fault.{Fault}
-use Rattle.sps_pass_one.specs.declared.ask.Reading.{Reading}
-use Rattle.sps_pass_one.specs.declared.ask.Reading.TheVariants.{Expression, TwoDigits}
+use Rattle.sps_pass_one.specs.declared.ask.OperandReading.{OperandReading}
+use Rattle.sps_pass_one.specs.declared.ask.OperandReading.TheVariants.{Expression, TwoDigits}
 use Rattle.sps_pass_one.specs.declared.ask.Ask.{Ask}
 use Rattle.sps_pass_one.specs.declared.ask.Form.{Form}
 use Rattle.sps_pass_one.specs.Faults.{fault_at, broken_if}
@@ -106,17 +106,17 @@ form_of Dend = form_with None None
 form_of Head = form_with None None
 
 -- what an operand comes to, and the rules that it breaks
-pub record Answer : Type 0 where
+pub record OperandAnswer : Type 0 where
   pub faults : List Fault
   pub value : Option ℤ
 
-abbrev pub good : ℤ → Answer
+abbrev pub good : ℤ → OperandAnswer
 good v = record { faults = []; value = Some v }
 
-abbrev pub bad : Fault → Answer
+abbrev pub bad : Fault → OperandAnswer
 bad f = record { faults = f ∷ []; value = None }
 
-abbrev pub nothing : Answer
+abbrev pub nothing : OperandAnswer
 nothing = record { faults = []; value = None }
 
 -- the number of one or two digits
@@ -127,7 +127,7 @@ or_bad_length (Some n) = Ok (pos n)
 abbrev pub short_value : List ℕ → Result ℤ Rule
 short_value part = or_bad_length (short_number part)
 
-abbrev pub read_as : Reading → Scope → List ℕ → Result ℤ Rule
+abbrev pub read_as : OperandReading → Scope → List ℕ → Result ℤ Rule
 read_as Expression scope part = value_of scope part
 read_as TwoDigits scope part = short_value part
 
@@ -135,31 +135,31 @@ abbrev pub is_even : ℤ → Bool
 is_even v = nat_abs v % 2 == 0
 
 -- a value against what is asked; the range is looked at only where there is a value, and whether it is odd only within the range
-abbrev pub in_bounds : Ask → Result ℤ Rule → Answer
+abbrev pub in_bounds : Ask → Result ℤ Rule → OperandAnswer
 in_bounds q (Err rule) = bad (fault_at rule q.place)
 in_bounds q (Ok v) =
     if not (int_le q.low v && int_le v q.high) then bad (fault_at q.over q.place)
     else if q.odd && is_even v then bad (fault_at EvenAddress q.place)
     else good v
 
-abbrev pub missing_answer : Bool → Answer
+abbrev pub missing_answer : Bool → OperandAnswer
 missing_answer needed = record { faults = broken_if needed MissingOperand; value = None }
 
 -- an operand against what is asked of it
-unfoldable pub answer : Scope → StatementText → Ask → Answer
+unfoldable pub answer : Scope → StatementText → Ask → OperandAnswer
 answer scope s q =
     if lacks s q.place then missing_answer q.needed
     else in_bounds q (read_as q.reading scope (part_at s q.place))
 
-abbrev pub answer_if : Scope → StatementText → Option Ask → Answer
+abbrev pub answer_if : Scope → StatementText → Option Ask → OperandAnswer
 answer_if scope s None = nothing
 answer_if scope s (Some q) = answer scope s q
 
 -- the same of a statement of the program, in a scope of the program
-abbrev pub answer_in : GivenScope → Statement → Ask → Answer
+abbrev pub answer_in : GivenScope → Statement → Ask → OperandAnswer
 answer_in scope s q = answer (scope_now scope) (statement_text s) q
 
-abbrev pub if_asked : GivenScope → Statement → Option Ask → Answer
+abbrev pub if_asked : GivenScope → Statement → Option Ask → OperandAnswer
 if_asked scope s q = answer_if (scope_now scope) (statement_text s) q
 
 -- what n, k and A come to, 0 standing for a length that is not there

@@ -18,8 +18,8 @@ abbrev pub walk_of : List ℕ → WalkText
 walk_of source = record { number = 1; head = None; ended = false; lines = lines_of_source source }
 
 -- of the lines of a rest of a source those that are still looked at, where the first has a number
-abbrev pub lines_left : ℕ → List ℕ → List (List ℕ)
-lines_left number rest = take (most_statements + 2 - number) (texts_of rest)
+abbrev pub source_lines_left : ℕ → List ℕ → List (List ℕ)
+source_lines_left number rest = take (most_statements + 2 - number) (texts_of rest)
 
 -- one line further, where these lines are left
 abbrev pub one_further : WalkText → List (List ℕ) → WalkText
@@ -33,7 +33,7 @@ walk_past w s = record w {
 }
 
 -- a walk came to a line: it is the first of those that were left
-pub record ComesTo (old : WalkText) (x : SourceLine) (new : WalkText) : Type 0 where
+pub record ComesToLine (old : WalkText) (x : SourceLine) (new : WalkText) : Type 0 where
   pub line : old.lines ≡ x.text.now ∷ new.lines
   pub number : x.number ≡ old.number
   pub further : new ≡ one_further old new.lines
@@ -46,4 +46,4 @@ pub record IsAtEnd (old new : WalkText) : Type 0 where
 -- ONE STEP OF A WALK
 abbrev pub WalksOn : WalkText → Option SourceLine → WalkText → Type 0
 WalksOn old None new = IsAtEnd old new
-WalksOn old (Some x) new = ComesTo old x new
+WalksOn old (Some x) new = ComesToLine old x new

@@ -8,7 +8,7 @@ use sps_ops::{Declarative, Rule};
 ///
 /// Source: this project's own.
 #[derive(Clone, Copy, Debug, PartialEq, Eq)]
-pub enum Reading {
+pub enum OperandReading {
     /// As an expression.
     Expression,
     /// As one or two digits and nothing else, as the n of a DAC.
@@ -23,7 +23,7 @@ pub struct Ask {
     /// The place of its part, from 0.
     pub place: u8,
     /// How it is read.
-    pub reading: Reading,
+    pub reading: OperandReading,
     /// The least value.
     pub low: i64,
     /// The greatest value.
@@ -61,7 +61,7 @@ fn length_ask(place: u8, high: i64, needed: bool) -> Ask
 {
     Ask {
         place,
-        reading: Reading::Expression,
+        reading: OperandReading::Expression,
         low: 1,
         high,
         over: Rule::BadLength,
@@ -77,7 +77,7 @@ fn text_length_ask() -> Ask
 {
     Ask {
         place: 0,
-        reading: Reading::TwoDigits,
+        reading: OperandReading::TwoDigits,
         low: 1,
         high: 50,
         over: Rule::BadLength,
@@ -93,7 +93,7 @@ fn address_ask(place: u8, needed: bool, odd: bool) -> Ask
 {
     Ask {
         place,
-        reading: Reading::Expression,
+        reading: OperandReading::Expression,
         low: 0,
         high: 99_999,
         over: Rule::ValueTooLarge,

@@ -9,7 +9,7 @@ use crate::fault::{Fault, broken_if};
 use crate::heads::{head_faults, head_in};
 use crate::operands::measure;
 use crate::place::{Place, Placing};
-use crate::placing::{nothing_at, placing_of};
+use crate::placing::{nothing_at, placing_by};
 use crate::walk::Walk;
 use line_words::trimmed;
 use sps_expr::{Scope, Symbols, is_name};
@@ -108,7 +108,7 @@ fn placing_if(
     ensures label { result.label ≤ at + 9999900000 }
 {
     if active {
-        placing_of(at, head, symbols, s, operation_of(s))
+        placing_by(at, head, symbols, s, operation_of(s))
     } else {
         nothing_at(at)
     }
@@ -290,7 +290,7 @@ fn layout_faults(
 }
 
 // The first statement whose layout is broken, with the least rule.
-fn first_broken(source: &[u8], located: &Located) -> Option<(u32, Rule)>
+fn first_broken_rule(source: &[u8], located: &Located) -> Option<(u32, Rule)>
     requires places { located.now.places ≡ statement_places source.now }
     requires symbols { located.now.symbols ≡ symbols_of source.now }
     ensures { result ≡ first_broken_rule source.now }
@@ -330,7 +330,7 @@ pub fn lay_out(alloc: Global, source: &[u8]) -> Result<Layout, AllocError>
     ensures broken { IfOk result (λ l. l.broken ≡ first_broken_rule source.now) }
 {
     let located = locate(alloc, source)?;
-    let broken = first_broken(source, &located);
+    let broken = first_broken_rule(source, &located);
     Ok(Layout {
         places: located.places,
         symbols: located.symbols,

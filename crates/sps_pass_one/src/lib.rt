@@ -16,7 +16,7 @@ mod place;
 mod placing;
 mod walk;
 
-pub use ask::{Ask, Form, Reading, form_of};
+pub use ask::{Ask, Form, OperandReading, form_of};
 pub use fault::{Fault, broken_at_if, broken_if};
 pub use heads::head_faults;
 pub use laws::{known_law, least_law, measure_law};

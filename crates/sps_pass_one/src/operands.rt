@@ -8,7 +8,7 @@ ghost use Rattle.sps_pass_one.specs.Faults.{least};
 ghost use Rattle.sps_pass_one.specs.Measure.{part_at, lacks, short_value, read_as, is_even, in_bounds, answer_in, if_asked, measure_in, lacking_faults, size_of, size_or_0, natural_address, IsSmall, IsSmallForm};
 ghost use Rattle.std.specs.Option.{ForSome};
 
-use crate::ask::{Ask, Form, Reading};
+use crate::ask::{Ask, Form, OperandReading};
 use crate::fault::{Fault, broken_at_if, broken_if};
 use sps_expr::Scope;
 use sps_ops::Rule;
@@ -81,12 +81,12 @@ fn short_value(text: &[u8]) -> Result<i64, Rule>
 }
 
 // A part, read as it is asked for.
-fn read_as(reading: Reading, part: &[u8], scope: &Scope<'_>) -> Result<i64, Rule>
+fn read_as(reading: OperandReading, part: &[u8], scope: &Scope<'_>) -> Result<i64, Rule>
     ensures { result ≡ read_as reading (scope_now scope.now) part.now }
 {
     match reading {
-        Reading::Expression => scope.value(part),
-        Reading::TwoDigits => short_value(part),
+        OperandReading::Expression => scope.value(part),
+        OperandReading::TwoDigits => short_value(part),
     }
 }
 
@@ -177,7 +177,7 @@ fn size_of(v: Option<i64>) -> u64
 }
 
 // A value as an address.
-fn address_of(v: Option<i64>) -> Option<u64>
+fn natural_address(v: Option<i64>) -> Option<u64>
     ensures { result ≡ natural_address v }
 {
     match v {
@@ -222,6 +222,6 @@ pub fn measure(worst: Option<Fault>, s: &Statement<'_>, f: Form, scope: &Scope<'
         worst: a.worst,
         n: size_of(n.value),
         k: size_of(k.value),
-        a: address_of(a.value),
+        a: natural_address(a.value),
     }
 }

@@ -194,7 +194,7 @@ fn count_of(d: Declarative, s: &Statement<'_>, n: u64) -> u64
 }
 
 // Where a declarative puts its field; one whose layout is broken takes no digits.
-fn place_declared(
+fn declarative_placing(
     d: Declarative,
     at: u64,
     head: Option<u8>,
@@ -235,7 +235,7 @@ fn instruction_placing(at: u64) -> Placing
 }
 
 // What a statement with an operation does at a location; with an unknown one it takes no digits.
-pub(crate) fn placing_of(
+pub(crate) fn placing_by(
     at: u64,
     head: Option<u8>,
     symbols: &Symbols,
@@ -250,6 +250,6 @@ pub(crate) fn placing_of(
     match operation {
         None => nothing_at(at),
         Some(Operation::Instruction { .. }) => instruction_placing(at),
-        Some(Operation::Declare(d)) => place_declared(d, at, head, symbols, s),
+        Some(Operation::Declare(d)) => declarative_placing(d, at, head, symbols, s),
     }
 }

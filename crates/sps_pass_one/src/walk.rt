@@ -35,11 +35,11 @@ pub struct Walk<'a> {
 
 impl<'a> Model for Walk<'a> {
     ghost use Rattle.std.specs.Prelude.{◌≤◌};
-    ghost use Rattle.sps_pass_one.specs.Walk.{WalkText, lines_left};
+    ghost use Rattle.sps_pass_one.specs.Walk.{WalkText, source_lines_left};
 
     ghost Value = { WalkText };
 
-    ghost view = { λ w. record { number = w.number; head = w.head; ended = w.ended; lines = lines_left w.number w.rest.now } };
+    ghost view = { λ w. record { number = w.number; head = w.head; ended = w.ended; lines = source_lines_left w.number w.rest.now } };
 
     ghost invariant = { λ w. w.number ≤ 20002 };
 }

@@ -4,12 +4,12 @@ use Rattle.std.proofs.lemmas.Bool.{cases_lt, cases_eq}
 use Rattle.std.proofs.lemmas.Bool.Decides.{nat_tests}
 use Rattle.std.specs.Prelude.{if◌then◌else◌}
 use Rattle.digit_core.specs.declared.Digit.{Digit}
-use Rattle.sps_pass_two.specs.Image.{Run, digit_at, declared_digit, or_else, onto_piece, pieces_from}
+use Rattle.sps_pass_two.specs.Image.{DigitRun, digit_at, declared_digit, or_else, onto_piece, pieces_from}
 use Rattle.sps_pass_two.specs.Kept.{are_apart, declared_in, PiecesLaw}
 use Rattle.sps_pass_two.proofs.DigitAt.{outside, within}
 use Rattle.sps_pass_two.proofs.Runs.{Starts, starts}
 
-abbrev run : ℕ → List Digit → Run
+abbrev run : ℕ → List Digit → DigitRun
 run a ds = record { from = a; digits = ds }
 
 -- one digit in front
@@ -50,7 +50,7 @@ or_if true o q d none = rw (none refl) refl
 or_if false o q d none = refl
 
 -- what is declared once a digit was put in front
-onto_declares : (a : ℕ) (d : Digit) (ps : List Run) (b : ℕ) → declared_digit ps a ≡ None → declared_digit (onto_piece a d ps) b ≡ (if b == a then Some d else declared_digit ps b)
+onto_declares : (a : ℕ) (d : Digit) (ps : List DigitRun) (b : ℕ) → declared_digit ps a ≡ None → declared_digit (onto_piece a d ps) b ≡ (if b == a then Some d else declared_digit ps b)
 unfolding declared_digit
 onto_declares a d [] b none = front_at a d [] b ∙ ap (λ (o : Option Digit). if b == a then Some d else o) (empty_at (a + 1) b)
 onto_declares a d (p ∷ ps) b none = by_near (p.from == a + 1) refl
@@ -68,7 +68,7 @@ onto_declares a d (p ∷ ps) b none = by_near (p.from == a + 1) refl
     by_near true near =
         let e : p.from ≡ a + 1 = grind (arith, nat_tests) in
         let same : run (a + 1) p.digits ≡ p = λ i. record { from = sym e i; digits = p.digits } in
-        ap (or_else (declared_digit ps b)) (front_at a d p.digits b ∙ ap (λ (g : Run). if b == a then Some d else digit_at g b) same)
+        ap (or_else (declared_digit ps b)) (front_at a d p.digits b ∙ ap (λ (g : DigitRun). if b == a then Some d else digit_at g b) same)
         ∙ or_if (b == a) (declared_digit ps b) (digit_at p b) d rest_none
     by_near false far =
         ap (or_else (or_else (declared_digit ps b) (digit_at p b))) (front_at a d [] b)
@@ -119,11 +119,11 @@ skip_at cells a b =
     same_if (b == a) (declared_in (a + 1) cells b) (λ t. let e : b ≡ a = grind (arith, nat_tests) in rw e (at_front cells a)) ∙ cell_at None cells a b
 
 -- a longer piece in the place of the first
-longer_apart : (p g : Run) (ps : List Run) → g.from + length g.digits ≡ p.from + length p.digits → are_apart (p ∷ ps) ≡ true → are_apart (g ∷ ps) ≡ true
+longer_apart : (p g : DigitRun) (ps : List DigitRun) → g.from + length g.digits ≡ p.from + length p.digits → are_apart (p ∷ ps) ≡ true → are_apart (g ∷ ps) ≡ true
 longer_apart p g [] same apart = refl
 longer_apart p g (q ∷ ps) same apart = ap (λ (n : ℕ). nat_lt n q.from && are_apart (q ∷ ps)) same ∙ apart
 
-onto_apart : (a : ℕ) (d : Digit) (ps : List Run) → Starts (a + 1) ps → are_apart ps ≡ true → are_apart (onto_piece a d ps) ≡ true
+onto_apart : (a : ℕ) (d : Digit) (ps : List DigitRun) → Starts (a + 1) ps → are_apart ps ≡ true → are_apart (onto_piece a d ps) ≡ true
 onto_apart a d [] s apart = refl
 onto_apart a d (p ∷ ps) s apart = by_near (p.from == a + 1) refl
   where

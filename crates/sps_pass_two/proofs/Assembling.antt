@@ -12,16 +12,16 @@ use Rattle.sps_scan.specs.Statement.{StatementText, statement_of}
 use Rattle.sps_pass_one.specs.declared.fault.Fault.{Fault}
 use Rattle.sps_pass_one.specs.declared.place.Place.{Place}
 use Rattle.sps_pass_one.specs.Faults.{least}
-use Rattle.sps_pass_one.specs.declared.ask.Reading.TheVariants.{Expression}
+use Rattle.sps_pass_one.specs.declared.ask.OperandReading.TheVariants.{Expression}
 use Rattle.sps_pass_one.specs.Measure.{answer, in_bounds, lacks, read_as, part_at}
 use Rattle.sps_pass_one.specs.Layout.{first, state_before_next, counts_if, ends_if, is_end, operation_of, PassStep, pass_step, statements, statements_of, statement_place, statement_places, symbols_of, Refusal}
 use Rattle.sps_pass_one.specs.Walk.{WalkText, walk_of, one_further, walk_past}
 use Rattle.sps_pass_one.proofs.Following.{Follows, place_is, next, next_done, next_state}
 use Rattle.sps_pass_two.specs.Operands.{operand_ask, value_or_0}
 use Rattle.sps_pass_two.specs.Broken.{statement_outcome, end_faults, first_address, refusal_of, statement_and_fault}
-use Rattle.sps_pass_two.specs.Image.{Run, run_with}
+use Rattle.sps_pass_two.specs.Image.{DigitRun, run_with}
 use Rattle.sps_pass_two.specs.Writing.{with_digits, with_fields}
-use Rattle.sps_pass_two.specs.Assembled.{PlacedText, placed_text, field_of, start_in, is_instruction}
+use Rattle.sps_pass_two.specs.Assembled.{PlacedText, placed_text, statement_run, start_in, is_instruction}
 use Rattle.sps_pass_two.specs.Making.{start_value}
 use Rattle.sps_pass_two.proofs.Overlay.{length_all, length_none}
 use Rattle.sps_pass_two.proofs.Refusing.{faults_at, ends_of}
@@ -40,7 +40,7 @@ unfolding answer
 small_start scope s = by_bool (lacks s 0) (λ t. rw t (omega arith)) (λ f. rw f (small_value 0 (read_as Expression scope (part_at s 0))))
 
 -- one field more
-written_last : (image : List (Option Digit)) (fs : List Run) (f : Run) → with_fields image (fs ++ f ∷ []) ≡ with_digits (with_fields image fs) f.from f.digits
+written_last : (image : List (Option Digit)) (fs : List DigitRun) (f : DigitRun) → with_fields image (fs ++ f ∷ []) ≡ with_digits (with_fields image fs) f.from f.digits
 unfolding with_fields
 written_last image [] f = refl
 written_last image (g ∷ fs) f = written_last (with_digits image g.from g.digits) fs f
@@ -65,7 +65,7 @@ start_on symbols start false head x rest all e headed h = by_bool (counts_if fal
 pub record Assembling (symbols : List SymbolEntry) (positions : ℕ) (w : WalkText) (places : List Place) (source : List ℕ) (whole : Option Refusal) (start : ℕ) (placed : List PlacedText) (image : List (Option Digit)) : Type 0 where
   pub follows : Follows (faults_at symbols positions) (ends_of source) w places source whole
   pub placed_are : placed ≡ map (placed_text symbols positions) follows.done
-  pub image_is : image ≡ with_fields (replicate positions None) (map (field_of symbols positions) follows.done)
+  pub image_is : image ≡ with_fields (replicate positions None) (map (statement_run symbols positions) follows.done)
   pub start_is : StartIs symbols start w.ended (statements follows.st w.lines) (statements_of source)
 
 pub begins : (symbols : List SymbolEntry) (positions : ℕ) (source : List ℕ) (places : List Place) → symbols ≡ symbols_of source → places ≡ statement_places source → Assembling symbols positions (walk_of source) places source (refusal_of positions source) 0 [] (replicate positions None)
@@ -94,7 +94,7 @@ module _ (symbols : List SymbolEntry) (positions : ℕ) (w : WalkText) (places :
     same_placed ended n h e_ended e_number e_head digits e = rw (e, ← e_ended, ← e_number, ← e_head) refl
 
     same_field : (ended : Bool) (n : ℕ) (h : Option ℕ) → f.st.ended ≡ ended → f.st.number ≡ n → f.st.head ≡ h → (digits : List Digit) → digits ≡ (statement_outcome h symbols (statement_place (pass_step f.st line)) ended n (statement_of line) positions).digits →
-        run_with (first_address (operation_of (statement_of line)) (statement_place (pass_step f.st line))) digits ≡ field_of symbols positions (pass_step f.st line)
+        run_with (first_address (operation_of (statement_of line)) (statement_place (pass_step f.st line))) digits ≡ statement_run symbols positions (pass_step f.st line)
     same_field ended n h e_ended e_number e_head digits e = rw (e, ← e_ended, ← e_number, ← e_head) refl
 
     module _ (r : Option Fault) (e_r : r ≡ least None (faults_at symbols positions (pass_step f.st line))) (none : r ≡ None) (digits : List Digit) (e_digits : digits ≡ (statement_outcome w.head symbols p w.ended w.number s positions).digits) where
@@ -118,11 +118,11 @@ module _ (symbols : List SymbolEntry) (positions : ℕ) (w : WalkText) (places :
           ap (λ (ys : List PlacedText). ys ++ record { address = p.label; instruction = counts_if w.ended s.shape && is_instruction (operation_of s); digits = digits } ∷ []) g.placed_are
           ∙ rw (done_is, map-append, e_s, e_p) (ap (λ y. map (placed_text symbols positions) f.done ++ y ∷ []) h)
 
-      pub image_on : with_digits image (first_address (operation_of s) p) digits ≡ with_fields (replicate positions None) (map (field_of symbols positions) on.done)
+      pub image_on : with_digits image (first_address (operation_of s) p) digits ≡ with_fields (replicate positions None) (map (statement_run symbols positions) on.done)
       image_on =
           let h = same_field w.ended w.number w.head f.ended_is f.number_is f.head_is digits digits_here in
           ap (λ (cells : List (Option Digit)). with_digits cells (first_address (operation_of s) p) digits) g.image_is
-          ∙ rw (done_is, map-append, e_s, e_p) (ap (λ (y : Run). with_digits (with_fields (replicate positions None) (map (field_of symbols positions) f.done)) y.from y.digits) h ∙ sym (written_last (replicate positions None) (map (field_of symbols positions) f.done) (field_of symbols positions (pass_step f.st line))))
+          ∙ rw (done_is, map-append, e_s, e_p) (ap (λ (y : DigitRun). with_digits (with_fields (replicate positions None) (map (statement_run symbols positions) f.done)) y.from y.digits) h ∙ sym (written_last (replicate positions None) (map (statement_run symbols positions) f.done) (statement_run symbols positions (pass_step f.st line))))
 
       pub start_is_on : StartIs symbols (if ends_if w.ended (counts_if w.ended s.shape) s && not w.ended then start_value w.head symbols p s else start) (ends_if w.ended (counts_if w.ended (statement_of line).shape) (statement_of line)) (statements on.st lines) (statements_of source)
       unfolding statements
@@ -148,8 +148,8 @@ module _ (symbols : List SymbolEntry) (positions : ℕ) (w : WalkText) (places :
   pub all_placed : placed ≡ map (placed_text symbols positions) (statements_of source)
   all_placed = g.placed_are ∙ ap (λ (xs : List PassStep). map (placed_text symbols positions) xs) all_done
 
-  pub all_fields : image ≡ with_fields (replicate positions None) (map (field_of symbols positions) (statements_of source))
-  all_fields = g.image_is ∙ ap (λ (xs : List PassStep). with_fields (replicate positions None) (map (field_of symbols positions) xs)) all_done
+  pub all_fields : image ≡ with_fields (replicate positions None) (map (statement_run symbols positions) (statements_of source))
+  all_fields = g.image_is ∙ ap (λ (xs : List PassStep). with_fields (replicate positions None) (map (statement_run symbols positions) xs)) all_done
 
   pub start_known : w.ended ≡ true → start ≡ start_in symbols (statements_of source)
   start_known e = started symbols start (statements g.follows.st w.lines) (statements_of source) w.ended e g.start_is
@@ -157,7 +157,7 @@ module _ (symbols : List SymbolEntry) (positions : ℕ) (w : WalkText) (places :
 -- the image has a cell for each position
 pub image_size : (symbols : List SymbolEntry) (positions : ℕ) (w : WalkText) (places : List Place) (source : List ℕ) (whole : Option Refusal) (start : ℕ) (placed : List PlacedText) (image : List (Option Digit)) → Assembling symbols positions w places source whole start placed image → length image ≡ positions
 image_size symbols positions w places source whole start placed image g =
-    ap (λ (cells : List (Option Digit)). length cells) g.image_is ∙ (length_all (map (field_of symbols positions) g.follows.done) (replicate positions None) ∙ length_none positions)
+    ap (λ (cells : List (Option Digit)). length cells) g.image_is ∙ (length_all (map (statement_run symbols positions) g.follows.done) (replicate positions None) ∙ length_none positions)
 
 -- no refusal at the end: the source has a DEND
 pub not_refused : (is_ended : Bool) (w : Option Fault) → w ≡ least None (end_faults is_ended) → w ≡ None → is_ended ≡ true

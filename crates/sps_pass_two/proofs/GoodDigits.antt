@@ -5,7 +5,7 @@ use Rattle.std.specs.List.{list_all, All}
 use Rattle.std.proofs.lemmas.Bool.Decides.{nat_tests}
 use Rattle.std.proofs.lemmas.List.Elements.{All-nil, All-cons}
 use Rattle.digit_core.specs.declared.Digit.{Digit}
-use Rattle.digit_core.specs.Cell.{unflagged_digit, is_value, IsGood}
+use Rattle.digit_core.specs.Cell.{unflagged_digit, is_cell_value, IsGood}
 use Rattle.digit_core.specs.declared.TheConstants.{NUMERICAL_BLANK}
 use Rattle.card_code.specs.Pairs.{Pair, PairEntry, pair_in, pair_table, alpha_of, digits}
 use Rattle.sps_ops.specs.declared.operation.Operation.{Operation}
@@ -19,7 +19,7 @@ use Rattle.sps_expr.specs.Symbol.{SymbolEntry}
 use Rattle.sps_expr.specs.Value.{Scope, scope_of}
 use Rattle.sps_expr.proofs.Cases.{by_bool, and_parts}
 use Rattle.sps_pass_one.specs.declared.place.Place.{Place}
-use Rattle.sps_pass_one.specs.Measure.{Answer, answer, part_at, measure, form_of}
+use Rattle.sps_pass_one.specs.Measure.{OperandAnswer, answer, part_at, measure, form_of}
 use Rattle.sps_pass_one.specs.Layout.{counts_if, operation_of}
 use Rattle.sps_pass_two.specs.Digits.{last_digits, with_first_flag, last_flagged, address_digits, is_negative, with_flags, is_constant_character, constant_digit, unsigned_constant, signed_constant, constant_of, with_leading_zeros, pair_digits, character_digits, characters_digits, with_trailing_blanks, text_digits, no_flags}
 use Rattle.sps_pass_two.specs.Operands.{operand_ask, disk_ask, addresses, address_list, value_or_0, flagged_address, instruction_digits, q_answer, flags_answer, part_digits}
@@ -42,7 +42,7 @@ replicate_good : (n : ℕ) (d : Digit) → IsGood d → AllGood (replicate n d)
 replicate_good zero d g = tt
 replicate_good (suc n) d g = (g, replicate_good n d g)
 
-small_good : (v : ℕ) → v ≤ 10 → is_value v ≡ true
+small_good : (v : ℕ) → v ≤ 10 → is_cell_value v ≡ true
 small_good v h = grind (arith, nat_tests)
 
 last_good : (n v : ℕ) → AllGood (last_digits n v)
@@ -72,7 +72,7 @@ address_good v = last_flag_good (is_negative v) (last_digits 5 (nat_abs v)) (las
 flagged_good : (v : ℤ) → AllGood (flagged_address v)
 flagged_good v = first_flag_good true (address_digits v) (address_good v)
 
-list_good : (as_ : List Answer) → AllGood (address_list as_)
+list_good : (as_ : List OperandAnswer) → AllGood (address_list as_)
 unfolding address_list
 list_good [] = tt
 list_good (a ∷ as_) = append_good (flagged_address (value_or_0 a.value)) (address_list as_) (flagged_good (value_or_0 a.value)) (list_good as_)
@@ -112,7 +112,7 @@ filled_good n ds a = append_good (replicate (n - length ds) (unflagged_digit 0))
 -- texts
 abbrev are_values : List PairEntry → Bool
 are_values [] = true
-are_values (e ∷ es) = (is_value e.pair.zone && is_value e.pair.number) && are_values es
+are_values (e ∷ es) = (is_cell_value e.pair.zone && is_cell_value e.pair.number) && are_values es
 
 abbrev found_good : Option Pair → Type 0
 found_good None = ⊤
@@ -122,8 +122,8 @@ pair_good : (es : List PairEntry) (c : ℕ) → are_values es ≡ true → found
 unfolding pair_in
 pair_good [] c h = tt
 pair_good (e ∷ es) c h =
-    let p = and_parts (is_value e.pair.zone && is_value e.pair.number) (are_values es) h in
-    let q = and_parts (is_value e.pair.zone) (is_value e.pair.number) p.0 in
+    let p = and_parts (is_cell_value e.pair.zone && is_cell_value e.pair.number) (are_values es) h in
+    let q = and_parts (is_cell_value e.pair.zone) (is_cell_value e.pair.number) p.0 in
     by_bool (e.char == c) (λ t. rw t (q.0, (q.1, tt))) (λ f. rw f (pair_good es c p.1))
 
 digits_good : (o : Option Pair) → found_good o → AllGood (pair_digits (option_map digits o))

@@ -29,21 +29,21 @@ use Rattle.sps_expr.proofs.Cases.{by_bool, and_parts}
 use Rattle.sps_pass_one.specs.declared.ask.Ask.{Ask}
 use Rattle.sps_pass_one.specs.declared.place.Place.{Place}
 use Rattle.sps_pass_one.specs.Faults.{broken_if}
-use Rattle.sps_pass_one.specs.Measure.{Answer, Measure, answer, in_bounds, read_as, is_even, part_at, lacks, measure, form_of, size_of, length_ask, text_length_ask, or_bad_length, lacking_faults}
+use Rattle.sps_pass_one.specs.Measure.{OperandAnswer, Measure, answer, in_bounds, read_as, is_even, part_at, lacks, measure, form_of, size_of, length_ask, text_length_ask, or_bad_length, lacking_faults}
 use Rattle.sps_pass_one.specs.Placing.{listed_count, count_of, declared_size, field_placing, declared_placing}
-use Rattle.sps_pass_one.specs.Layout.{State, pass_step, counts, operation_of, earlier_symbols, declarative_placing, placing_by, placing, statement_place, for_layout}
+use Rattle.sps_pass_one.specs.Layout.{PassState, pass_step, counts, operation_of, earlier_symbols, declarative_placing, placing_by, placing, statement_place, for_layout}
 use Rattle.sps_pass_one.proofs.Alike.{measure_alike}
 use Rattle.sps_pass_two.specs.Digits.{last_digits, with_first_flag, last_flagged, address_digits, is_negative, with_flags, constant_of, with_leading_zeros, pair_of, pair_digits, character_digits, characters_digits, with_trailing_blanks, text_digits, no_flags}
 use Rattle.sps_pass_two.specs.Operands.{operand_ask, disk_ask, addresses, address_list, value_or_0, flagged_address, instruction_digits, q_answer, flags_answer, part_digits}
 use Rattle.sps_pass_two.specs.Broken.{line_faults, label_faults, anywhere, is_bad_constant, constant_faults, digits_or_none, constant_digits, own_outcome, measure_of, others_of, declared_outcome, outcome_by_operation, begins_at, is_outside, outcome_if, statement_outcome}
 use Rattle.sps_pass_two.specs.Kept.{lowest_declared}
-use Rattle.sps_pass_two.specs.Assembled.{field_of}
+use Rattle.sps_pass_two.specs.Assembled.{statement_run}
 use Rattle.sps_pass_two.proofs.NoFaults.{nil_parts, not_broken, not_broken_at, negated}
 use Rattle.sps_pass_two.proofs.Refusing.{faults_at}
 use Rattle.sps_pass_two.proofs.Holding.{LiesAbove}
 
 -- an operand that must be there and breaks no rule has a value
-record Found (q : Ask) (a : Answer) (r : Result ℤ Rule) : Type 0 where
+record Found (q : Ask) (a : OperandAnswer) (r : Result ℤ Rule) : Type 0 where
   value : ℤ
   is : a.value ≡ Some value
   read : r ≡ Ok value
@@ -182,7 +182,7 @@ length_text n text h fits =
     let c = length_blanks (n - length text) in
     omega arith
 
-length_disk : (a b c d : Answer) → length (part_digits 1 a ++ (part_digits 5 b ++ (part_digits 3 c ++ part_digits 5 d))) ≡ 14
+length_disk : (a b c d : OperandAnswer) → length (part_digits 1 a ++ (part_digits 5 b ++ (part_digits 3 c ++ part_digits 5 d))) ≡ 14
 length_disk a b c d =
     let x = length-append (part_digits 1 a) (part_digits 5 b ++ (part_digits 3 c ++ part_digits 5 d)) in
     let y = length-append (part_digits 5 b) (part_digits 3 c ++ part_digits 5 d) in
@@ -295,7 +295,7 @@ above_least : (positions from n : ℕ) → is_outside positions from n ≡ false
 above_least positions from n inside some = grind (arith, nat_tests)
 
 -- a statement that breaks no rule
-module _ (symbols : List SymbolEntry) (positions : ℕ) (st : State) (line : List ℕ) (known : AreEarlier st.symbols symbols st.number) where
+module _ (symbols : List SymbolEntry) (positions : ℕ) (st : PassState) (line : List ℕ) (known : AreEarlier st.symbols symbols st.number) where
   abbrev s : StatementText
   s = statement_of line
 
@@ -341,7 +341,7 @@ module _ (symbols : List SymbolEntry) (positions : ℕ) (st : State) (line : Lis
       let many : length o.digits ≡ here.digits = operation_length (operation_of s) refl parts.0 ∙ sym counted in
       above_least positions (begins_at here s) here.digits (not_broken _ OutsideImage parts.1) (rw many at some)
 
-  pub lies_above : faults_at symbols positions (pass_step st line) ≡ [] → LiesAbove (field_of symbols positions (pass_step st line))
+  pub lies_above : faults_at symbols positions (pass_step st line) ≡ [] → LiesAbove (statement_run symbols positions (pass_step st line))
   unfolding statement_outcome
   lies_above unbroken =
       lies_if (counts st s) refl (nil_parts (line_faults s.shape st.ended st.number)

@@ -1,5 +1,5 @@
 pub mod Flags
-pub mod Listed
+pub mod FlagParts
 pub mod Chains
 pub mod GoodDigits
 pub mod NoFaults
@@ -10,7 +10,7 @@ pub mod Runs
 pub mod DigitAt
 pub mod Overlay
 pub mod Apart
-pub mod Kept
+pub mod KeptPieces
 pub mod Holding
 pub mod Counting
 pub mod Assembling

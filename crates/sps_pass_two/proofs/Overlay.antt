@@ -4,7 +4,7 @@ use Rattle.std.proofs.lemmas.Bool.{cases_lt}
 use Rattle.std.proofs.lemmas.Grind.{common_steps}
 use Rattle.digit_core.specs.declared.Digit.{Digit}
 use Rattle.digit_core.specs.Cell.{unflagged_digit}
-use Rattle.sps_pass_two.specs.Image.{Run, digit_at, or_else, declared_digit, cells_from}
+use Rattle.sps_pass_two.specs.Image.{DigitRun, digit_at, or_else, declared_digit, cells_from}
 use Rattle.sps_pass_two.specs.Writing.{with_digits, with_fields}
 use Rattle.sps_pass_two.proofs.DigitAt.{outside, within}
 
@@ -35,7 +35,7 @@ unfolding with_digits
 length_written image from [] = refl
 length_written image from (d ∷ ds) = length_written (slice_set image from (Some d)) (from + 1) ds ∙ grind (arith, common_steps)
 
-run_at : (image : List (Option Digit)) (r : Run) (a : ℕ) → a < length image → at (with_digits image r.from r.digits) a ≡ or_else (digit_at r a) (at image a)
+run_at : (image : List (Option Digit)) (r : DigitRun) (a : ℕ) → a < length image → at (with_digits image r.from r.digits) a ≡ or_else (digit_at r a) (at image a)
 run_at image r a fits =
     elim (cases_lt a r.from) [
       | inl low ↦ rw (outside r a (inl low)) (written_below image r.from r.digits a low)
@@ -52,20 +52,20 @@ or_else_assoc : (x y z : Option Digit) → or_else x (or_else y z) ≡ or_else (
 or_else_assoc None y z = refl
 or_else_assoc (Some d) y z = refl
 
-all_at : (fs : List Run) (image : List (Option Digit)) (a : ℕ) → a < length image → at (with_fields image fs) a ≡ or_else (declared_digit fs a) (at image a)
+all_at : (fs : List DigitRun) (image : List (Option Digit)) (a : ℕ) → a < length image → at (with_fields image fs) a ≡ or_else (declared_digit fs a) (at image a)
 unfolding with_fields declared_digit
 all_at [] image a fits = refl
 all_at (f ∷ fs) image a fits =
     let n = length_written image f.from f.digits in
     all_at fs (with_digits image f.from f.digits) a (omega arith) ∙ (ap (or_else (declared_digit fs a)) (run_at image f a fits) ∙ or_else_assoc (declared_digit fs a) (digit_at f a) (at image a))
 
-pub length_all : (fs : List Run) (image : List (Option Digit)) → length (with_fields image fs) ≡ length image
+pub length_all : (fs : List DigitRun) (image : List (Option Digit)) → length (with_fields image fs) ≡ length image
 unfolding with_fields
 length_all [] image = refl
 length_all (f ∷ fs) image = length_all fs (with_digits image f.from f.digits) ∙ length_written image f.from f.digits
 
 -- a list by its elements
-by_elements : (fs : List Run) (n a : ℕ) (xs : List (Option Digit)) → length xs ≡ n → ((i : ℕ) → i < n → at xs i ≡ declared_digit fs (a + i)) → xs ≡ cells_from fs a n
+by_elements : (fs : List DigitRun) (n a : ℕ) (xs : List (Option Digit)) → length xs ≡ n → ((i : ℕ) → i < n → at xs i ≡ declared_digit fs (a + i)) → xs ≡ cells_from fs a n
 unfolding cells_from
 by_elements fs zero a [] e h = refl
 by_elements fs zero a (x ∷ xs) e h = absurd (omega arith)
@@ -88,7 +88,7 @@ pub length_none : (n : ℕ) → length (replicate {A = Option Digit} n None) ≡
 length_none zero = refl
 length_none (suc n) = ap suc (length_none n)
 
-pub image_is : (positions : ℕ) (fs : List Run) → with_fields (replicate positions None) fs ≡ cells_from fs 0 positions
+pub image_is : (positions : ℕ) (fs : List DigitRun) → with_fields (replicate positions None) fs ≡ cells_from fs 0 positions
 image_is positions fs =
     let n = length_none positions in
     by_elements fs positions 0 (with_fields (replicate positions None) fs) (length_all fs (replicate positions None) ∙ n)

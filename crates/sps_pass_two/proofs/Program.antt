@@ -8,28 +8,28 @@ use Rattle.sps_pass_one.specs.declared.fault.Fault.{Fault}
 use Rattle.sps_pass_one.specs.declared.place.Place.{Place}
 use Rattle.sps_pass_one.specs.Faults.{least}
 use Rattle.sps_pass_one.specs.Laws.{AllKnown}
-use Rattle.sps_pass_one.specs.Layout.{State, first, state_before_next, PassStep, statements, statements_of, lines_of_source, statement_place, symbols_of}
+use Rattle.sps_pass_one.specs.Layout.{PassState, first, state_before_next, PassStep, statements, statements_of, lines_of_source, statement_place, symbols_of}
 use Rattle.sps_pass_one.proofs.KnownSymbols.{known}
 use Rattle.sps_pass_one.specs.Walk.{WalkText}
 use Rattle.sps_pass_two.specs.Broken.{end_faults, refusal_of}
 use Rattle.sps_pass_two.specs.Image.{cells_from, pieces_from}
-use Rattle.sps_pass_two.specs.Kept.{IsBelow, IsImage, IsProgram, AreKept}
-use Rattle.sps_pass_two.specs.Assembled.{PlacedText, placed_text, field_of, fields_of, start_in}
+use Rattle.sps_pass_two.specs.Kept.{IsRunBelow, IsImage, IsProgram, AreKept}
+use Rattle.sps_pass_two.specs.Assembled.{PlacedText, placed_text, statement_run, fields_of, start_in}
 use Rattle.sps_pass_two.proofs.GoodDigits.{outcome_good}
 use Rattle.sps_pass_two.proofs.Lengths.{lies_above}
 use Rattle.sps_pass_two.proofs.Refusing.{past_last}
 use Rattle.sps_pass_two.proofs.Unbroken.{AllUnbroken, all_unbroken, few_statements, is_start}
 use Rattle.sps_pass_two.proofs.Overlay.{image_is}
 use Rattle.sps_pass_two.proofs.Apart.{are_pieces}
-use Rattle.sps_pass_two.proofs.Kept.{are_kept, below_of}
+use Rattle.sps_pass_two.proofs.KeptPieces.{are_kept, below_of}
 use Rattle.sps_pass_two.proofs.Holding.{length_cells, AllGoodRuns, good_cells, AllAbove, above_pieces}
 use Rattle.sps_pass_two.proofs.Assembling.{Assembling, all_fields, all_placed, start_known, not_refused, whole_none}
 
-good_fields : (symbols : List SymbolEntry) (positions : ℕ) (xs : List PassStep) → AllGoodRuns (map (field_of symbols positions) xs)
+good_fields : (symbols : List SymbolEntry) (positions : ℕ) (xs : List PassStep) → AllGoodRuns (map (statement_run symbols positions) xs)
 good_fields symbols positions [] = tt
 good_fields symbols positions (x ∷ xs) = (outcome_good x.before.head symbols (statement_place x) x.before.ended x.before.number x.text positions, good_fields symbols positions xs)
 
-above_fields : (symbols : List SymbolEntry) (positions : ℕ) (st : State) (lines : List (List ℕ)) → AllKnown symbols (statements st lines) → AllUnbroken symbols positions (statements st lines) → AllAbove (map (field_of symbols positions) (statements st lines))
+above_fields : (symbols : List SymbolEntry) (positions : ℕ) (st : PassState) (lines : List (List ℕ)) → AllKnown symbols (statements st lines) → AllUnbroken symbols positions (statements st lines) → AllAbove (map (statement_run symbols positions) (statements st lines))
 unfolding statements
 above_fields symbols positions st [] known unbroken = tt
 above_fields symbols positions st (line ∷ lines) known unbroken = (lies_above symbols positions st line known.0 unbroken.0, above_fields symbols positions (state_before_next st (statement_of line)) lines known.1 unbroken.1)
@@ -42,7 +42,7 @@ module _ (positions : ℕ) (source : List ℕ) (good : refusal_of positions sour
   kept : AreKept 0 cells (pieces_from 0 cells)
   kept = are_kept cells 0 (rw are (good_cells (fields_of positions source) positions 0 (good_fields (symbols_of source) positions (statements_of source))))
 
-  pub within : All (IsBelow positions) (pieces_from 0 cells)
+  pub within : All (IsRunBelow positions) (pieces_from 0 cells)
   within = below_of cells 0 positions (let k = as_many in omega (arith, k))
 
   pub is_image : IsImage (pieces_from 0 cells)

@@ -5,19 +5,19 @@ use Rattle.std.proofs.lemmas.Bool.Decides.{nat_tests}
 use Rattle.std.proofs.lemmas.List.{drop_all}
 use Rattle.std.proofs.lemmas.Grind.{common_steps}
 use Rattle.digit_core.specs.declared.Digit.{Digit}
-use Rattle.sps_pass_two.specs.Image.{Run, pieces_from, onto_piece}
+use Rattle.sps_pass_two.specs.Image.{DigitRun, pieces_from, onto_piece}
 use Rattle.sps_pass_two.specs.Writing.{with_digits, front_digits}
 
 -- the first piece begins there or above
-abbrev pub Starts : ℕ → List Run → Type 0
+abbrev pub Starts : ℕ → List DigitRun → Type 0
 Starts b [] = ⊤
 Starts b (p ∷ ps) = b ≤ p.from
 
-onto_starts : (a : ℕ) (d : Digit) (ps : List Run) → Starts a (onto_piece a d ps)
+onto_starts : (a : ℕ) (d : Digit) (ps : List DigitRun) → Starts a (onto_piece a d ps)
 onto_starts a d [] = omega arith
 onto_starts a d (p ∷ ps) = elim (p.from == a + 1) as (λ t. Starts a (if t then record { from = a; digits = d ∷ p.digits } ∷ ps else record { from = a; digits = d ∷ [] } ∷ p ∷ ps)) [ true ↦ omega arith | false ↦ omega arith ]
 
-below_starts : (a b : ℕ) (ps : List Run) → a ≤ b → Starts b ps → Starts a ps
+below_starts : (a b : ℕ) (ps : List DigitRun) → a ≤ b → Starts b ps → Starts a ps
 below_starts a b [] h s = tt
 below_starts a b (p ∷ ps) h s = omega arith
 
@@ -27,11 +27,11 @@ starts a [] = tt
 starts a (None ∷ cells) = below_starts a (a + 1) (pieces_from (a + 1) cells) (omega arith) (starts (a + 1) cells)
 starts a (Some d ∷ cells) = onto_starts a d (pieces_from (a + 1) cells)
 
-far : (a : ℕ) (d : Digit) (ps : List Run) → Starts (a + 1 + 1) ps → onto_piece a d ps ≡ record { from = a; digits = d ∷ [] } ∷ ps
+far : (a : ℕ) (d : Digit) (ps : List DigitRun) → Starts (a + 1 + 1) ps → onto_piece a d ps ≡ record { from = a; digits = d ∷ [] } ∷ ps
 far a d [] s = refl
 far a d (p ∷ ps) s = let e : (p.from == a + 1) ≡ false = grind (arith, nat_tests) in rw e
 
-near : (a : ℕ) (d : Digit) (digits : List Digit) (ps : List Run) → onto_piece a d (record { from = a + 1; digits = digits } ∷ ps) ≡ record { from = a; digits = d ∷ digits } ∷ ps
+near : (a : ℕ) (d : Digit) (digits : List Digit) (ps : List DigitRun) → onto_piece a d (record { from = a + 1; digits = digits } ∷ ps) ≡ record { from = a; digits = d ∷ digits } ∷ ps
 near a d digits ps = let e : (a + 1 == a + 1) ≡ true = grind (arith, nat_tests) in rw e
 
 pub pieces_run : (a : ℕ) (d : Digit) (cells : List (Option Digit)) → pieces_from a (Some d ∷ cells) ≡ record { from = a; digits = d ∷ front_digits cells } ∷ pieces_from (a + suc (length (front_digits cells))) (drop (length (front_digits cells)) cells)

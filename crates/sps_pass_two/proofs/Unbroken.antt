@@ -14,10 +14,10 @@ use Rattle.sps_expr.specs.Symbol.{SymbolEntry}
 use Rattle.sps_expr.specs.Value.{Scope, scope_of}
 use Rattle.sps_pass_one.specs.declared.fault.Fault.{Fault}
 use Rattle.sps_pass_one.specs.declared.place.Place.{Place}
-use Rattle.sps_pass_one.specs.declared.ask.Reading.TheVariants.{Expression}
+use Rattle.sps_pass_one.specs.declared.ask.OperandReading.TheVariants.{Expression}
 use Rattle.sps_pass_one.specs.Faults.{broken_if, lesser, least, fault_order}
 use Rattle.sps_pass_one.specs.Measure.{answer, in_bounds, lacks, read_as, part_at, measure, form_of}
-use Rattle.sps_pass_one.specs.Layout.{State, first, state_before_next, behind, counts, is_end, operation_of, PassStep, pass_step, statements, statements_of, lines_of_source, statement_place, symbols_of, Refusal, or_later, first_refusal}
+use Rattle.sps_pass_one.specs.Layout.{PassState, first, state_before_next, state_behind, counts, is_end, operation_of, PassStep, pass_step, statements, statements_of, lines_of_source, statement_place, symbols_of, Refusal, or_later, first_refusal}
 use Rattle.sps_pass_two.specs.Operands.{operand_ask, value_or_0}
 use Rattle.sps_pass_two.specs.Broken.{is_bad_column, is_card, is_long, line_faults, label_faults, anywhere, is_bad_start, start_faults, outcome_by_operation, statement_outcome, end_faults, refusal_of}
 use Rattle.sps_pass_two.specs.Assembled.{start_of, start_in}
@@ -60,12 +60,12 @@ module _ (positions : ℕ) (source : List ℕ) (good : refusal_of positions sour
   pub all_unbroken : AllUnbroken (symbols_of source) positions (statements_of source)
   all_unbroken = both.0
 
-  last_none : least None (end_faults (behind first (lines_of_source source)).ended) ≡ None
+  last_none : least None (end_faults (state_behind first (lines_of_source source)).ended) ≡ None
   unfolding first_refusal
-  last_none = (none_later (1 + length (statements_of source)) (least None (end_faults (behind first (lines_of_source source)).ended)) None both.1).0
+  last_none = (none_later (1 + length (statements_of source)) (least None (end_faults (state_behind first (lines_of_source source)).ended)) None both.1).0
 
-  pub is_ended : (behind first (lines_of_source source)).ended ≡ true
-  is_ended = negated _ (not_broken (not (behind first (lines_of_source source)).ended) NoEnd (least_none _ last_none))
+  pub is_ended : (state_behind first (lines_of_source source)).ended ≡ true
+  is_ended = negated _ (not_broken (not (state_behind first (lines_of_source source)).ended) NoEnd (least_none _ last_none))
 
 -- THE NUMBER of the statements
 number_unbroken : (symbols : List SymbolEntry) (positions : ℕ) (x : PassStep) → faults_at symbols positions x ≡ [] → (x.before.number == 20001) ≡ false
@@ -77,11 +77,11 @@ number_unbroken symbols positions x e =
     let d = nil_parts (broken_if (x.before.ended && is_card x.text.shape) AfterEnd) (broken_if (x.before.number == 20001) TooManyStatements) c.1 in
     not_broken (x.before.number == 20001) TooManyStatements d.1
 
-number_goes_on : (st : State) (s : StatementText) → (state_before_next st s).number ≡ st.number + 1
+number_goes_on : (st : PassState) (s : StatementText) → (state_before_next st s).number ≡ st.number + 1
 unfolding state_before_next
 number_goes_on st s = refl
 
-few_from : (symbols : List SymbolEntry) (positions : ℕ) (st : State) (lines : List (List ℕ)) → st.number ≤ 20001 → AllUnbroken symbols positions (statements st lines) → st.number + length (statements st lines) ≤ 20001
+few_from : (symbols : List SymbolEntry) (positions : ℕ) (st : PassState) (lines : List (List ℕ)) → st.number ≤ 20001 → AllUnbroken symbols positions (statements st lines) → st.number + length (statements st lines) ≤ 20001
 unfolding statements
 few_from symbols positions st [] n u = omega arith
 few_from symbols positions st (line ∷ lines) n u =
@@ -156,12 +156,12 @@ start_here symbols positions x e active ends =
     start_good (anywhere x.before.head symbols (statement_place x).location) x.text positions
     (dend_faults x.before.head symbols (statement_place x) x.before.number x.text positions (operation_of x.text) (is_dend (operation_of x.text) ends) (counting_faults symbols positions x e active))
 
-stays_open : (st : State) (s : StatementText) → st.ended ≡ false → (counts st s && is_end (operation_of s)) ≡ false → (state_before_next st s).ended ≡ false
+stays_open : (st : PassState) (s : StatementText) → st.ended ≡ false → (counts st s && is_end (operation_of s)) ≡ false → (state_before_next st s).ended ≡ false
 unfolding state_before_next
 stays_open st s free e = rw (free) (rw free at e)
 
-start_from : (symbols : List SymbolEntry) (positions : ℕ) (st : State) (lines : List (List ℕ)) → st.ended ≡ false → (behind st lines).ended ≡ true → AllUnbroken symbols positions (statements st lines) → IsStart positions (start_in symbols (statements st lines))
-unfolding statements behind start_in
+start_from : (symbols : List SymbolEntry) (positions : ℕ) (st : PassState) (lines : List (List ℕ)) → st.ended ≡ false → (state_behind st lines).ended ≡ true → AllUnbroken symbols positions (statements st lines) → IsStart positions (start_in symbols (statements st lines))
+unfolding statements state_behind start_in
 start_from symbols positions st [] free e u = absurd (let k = sym free ∙ e in cc)
 start_from symbols positions st (line ∷ lines) free e u = by_bool (counts st (statement_of line) && is_end (operation_of (statement_of line)))
     (λ t. let two = and_parts (counts st (statement_of line)) (is_end (operation_of (statement_of line))) t in rw t (start_here symbols positions (pass_step st line) u.0 two.0 two.1))

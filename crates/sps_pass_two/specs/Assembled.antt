@@ -10,7 +10,7 @@ use Rattle.sps_scan.specs.Statement.{StatementText}
 use Rattle.sps_pass_one.specs.Layout.{counts, counts_if, is_end, operation_of, PassStep, statement_place, statements_of, symbols_of}
 use Rattle.sps_pass_two.specs.Operands.{operand_ask, value_or_0}
 use Rattle.sps_pass_two.specs.Broken.{anywhere, begins_at, outcome_at}
-use Rattle.sps_pass_two.specs.Image.{Run, run_with, pieces_of}
+use Rattle.sps_pass_two.specs.Image.{DigitRun, run_with, pieces_of}
 
 -- a statement as it is placed: the address that the listing shows, whether it is an instruction, and its digits
 pub record PlacedText : Type 0 where
@@ -34,8 +34,8 @@ placed_text symbols positions x = record {
 }
 
 -- the digits of a statement, from its first address on
-abbrev pub field_of : List SymbolEntry → ℕ → PassStep → Run
-field_of symbols positions x = run_with (begins_at (statement_place x) x.text) (outcome_at symbols positions x).digits
+abbrev pub statement_run : List SymbolEntry → ℕ → PassStep → DigitRun
+statement_run symbols positions x = run_with (begins_at (statement_place x) x.text) (outcome_at symbols positions x).digits
 
 -- the start: what the operand of the first DEND comes to
 abbrev pub start_of : List SymbolEntry → PassStep → ℕ
@@ -52,13 +52,13 @@ start_in symbols [] = 0
 start_in symbols (x ∷ xs) = if counts_as_end x then start_of symbols x else start_in symbols xs
 
 pub record AssembledText : Type 0 where
-  pub pieces : List Run
+  pub pieces : List DigitRun
   pub start : ℕ
   pub placed : List PlacedText
 
 -- the digits of all statements
-abbrev pub fields_of : ℕ → List ℕ → List Run
-fields_of positions source = map (field_of (symbols_of source) positions) (statements_of source)
+abbrev pub fields_of : ℕ → List ℕ → List DigitRun
+fields_of positions source = map (statement_run (symbols_of source) positions) (statements_of source)
 
 -- the image, the start and the statements of a source that breaks no rule
 abbrev pub assembled_text : ℕ → List ℕ → AssembledText

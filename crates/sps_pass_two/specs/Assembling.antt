@@ -6,7 +6,7 @@ use Rattle.sps_pass_two.specs.declared.assembled.Assembled.{Assembled}
 use Rattle.sps_pass_two.specs.declared.assembled.AsmFault.{AsmFault}
 use Rattle.sps_pass_two.specs.declared.assembled.AsmFault.TheVariants as fault
 use Rattle.sps_pass_two.specs.Broken.{refusal_of, statement_and_fault}
-use Rattle.sps_pass_two.specs.Kept.{IsBelow}
+use Rattle.sps_pass_two.specs.Kept.{IsRunBelow}
 use Rattle.sps_pass_two.specs.Assembled.{assembled_text}
 use Rattle.sps_pass_two.specs.Making.{text_of_placed}
 
@@ -31,5 +31,5 @@ Assembles positions source (Err fault.Memory) = ⊤
 
 -- the pieces lie within a core of so many positions, and so does an instruction at the start
 pub record LiesWithin (positions : ℕ) (a : Assembled) : Type 0 where
-  pub pieces : All (IsBelow positions) a.image.pieces
+  pub pieces : All (IsRunBelow positions) a.image.pieces
   pub start : a.start + 12 ≤ positions

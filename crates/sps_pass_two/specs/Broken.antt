@@ -22,7 +22,7 @@ use Rattle.sps_pass_one.specs.Faults.{fault, broken_if, broken_at_if}
 use Rattle.sps_pass_one.specs.Measure.{Measure, measure, form_of, answer, part_at, lacks}
 use Rattle.sps_pass_one.specs.Heads.{head_faults}
 use Rattle.sps_pass_one.specs.Placing.{label_place}
-use Rattle.sps_pass_one.specs.Layout.{first, counts_if, is_label, operation_of, PassStep, statement_place, lines_of_source, statements_of, symbols_of, behind, most_statements, Refusal, first_refusal}
+use Rattle.sps_pass_one.specs.Layout.{first, counts_if, is_label, operation_of, PassStep, statement_place, lines_of_source, statements_of, symbols_of, state_behind, most_statements, Refusal, first_refusal}
 use Rattle.sps_pass_two.specs.Digits.{constant_of, with_leading_zeros, with_first_flag, text_digits}
 use Rattle.sps_pass_two.specs.Operands.{operand_ask, StatementOutcome, instruction_outcome, dsa_outcome, dda_outcome}
 use Rattle.sps_pass_two.specs.Kept.{lowest_declared, lowest_start}
@@ -202,7 +202,7 @@ end_faults ended = broken_if (not ended) NoEnd
 abbrev pub all_faults : ℕ → List ℕ → List (List Fault)
 all_faults positions source =
     map (λ x. (outcome_at (symbols_of source) positions x).faults) (statements_of source)
-    ++ end_faults (behind first (lines_of_source source)).ended ∷ []
+    ++ end_faults (state_behind first (lines_of_source source)).ended ∷ []
 
 -- THE REFUSAL: the least statement that breaks a rule, with the least rule that it breaks and the first part that breaks it
 abbrev pub refusal_of : ℕ → List ℕ → Option Refusal

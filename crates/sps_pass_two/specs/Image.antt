@@ -5,19 +5,19 @@ use Rattle.digit_core.specs.declared.Digit.{Digit}
 use Rattle.digit_core.specs.Cell.{unflagged_digit}
 
 -- digits from an address on: those that a statement declares, or a piece of the image
-pub record Run : Type 0 where
+pub record DigitRun : Type 0 where
   pub from : ℕ
   pub digits : List Digit
 
-abbrev pub run_with : ℕ → List Digit → Run
+abbrev pub run_with : ℕ → List Digit → DigitRun
 run_with from digits = record { from = from; digits = digits }
 
 -- the address is one of a run's
-abbrev pub is_in_run : Run → ℕ → Bool
+abbrev pub is_in_run : DigitRun → ℕ → Bool
 is_in_run r a = nat_le r.from a && nat_lt a (r.from + length r.digits)
 
 -- the digit that a run has at an address
-unfoldable pub digit_at : Run → ℕ → Option Digit
+unfoldable pub digit_at : DigitRun → ℕ → Option Digit
 digit_at r a = if is_in_run r a then Some (slice_index_or r.digits (a - r.from) (unflagged_digit 0)) else None
 
 -- one digit, or else another
@@ -26,26 +26,26 @@ or_else None other = other
 or_else (Some d) other = Some d
 
 -- the digit that some runs have at an address: that of the last one that has any
-unfoldable pub declared_digit : List Run → ℕ → Option Digit
+unfoldable pub declared_digit : List DigitRun → ℕ → Option Digit
 declared_digit [] a = None
 declared_digit (r ∷ rs) a = or_else (declared_digit rs a) (digit_at r a)
 
 -- what is declared at so many addresses from one on
-unfoldable pub cells_from : List Run → ℕ → ℕ → List (Option Digit)
+unfoldable pub cells_from : List DigitRun → ℕ → ℕ → List (Option Digit)
 cells_from fields a zero = []
 cells_from fields a (suc n) = declared_digit fields a ∷ cells_from fields (a + 1) n
 
 -- a declared digit goes in front of the piece that begins behind it
-abbrev pub onto_piece : ℕ → Digit → List Run → List Run
+abbrev pub onto_piece : ℕ → Digit → List DigitRun → List DigitRun
 onto_piece a d [] = run_with a (d ∷ []) ∷ []
 onto_piece a d (p ∷ ps) = if p.from == a + 1 then run_with a (d ∷ p.digits) ∷ ps else run_with a (d ∷ []) ∷ p ∷ ps
 
 -- the maximal runs of declared addresses, rising, the first of the cells being at an address
-unfoldable pub pieces_from : ℕ → List (Option Digit) → List Run
+unfoldable pub pieces_from : ℕ → List (Option Digit) → List DigitRun
 pieces_from a [] = []
 pieces_from a (None ∷ cells) = pieces_from (a + 1) cells
 pieces_from a (Some d ∷ cells) = onto_piece a d (pieces_from (a + 1) cells)
 
 -- the pieces of a core of so many positions
-abbrev pub pieces_of : ℕ → List Run → List Run
+abbrev pub pieces_of : ℕ → List DigitRun → List DigitRun
 pieces_of positions fields = pieces_from 0 (cells_from fields 0 positions)

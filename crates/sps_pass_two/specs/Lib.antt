@@ -13,8 +13,8 @@ pub mod Assembling
 pub mod Tasks
 -- what the crates above cite
 pub use Rattle.sps_pass_two.specs.Broken.{refusal_of}
-pub use Rattle.sps_pass_two.specs.Image.{Run}
-pub use Rattle.sps_pass_two.specs.Kept.{IsBelow, IsImage, IsPiece, digit_count, lowest_declared}
+pub use Rattle.sps_pass_two.specs.Image.{DigitRun}
+pub use Rattle.sps_pass_two.specs.Kept.{IsRunBelow, IsImage, IsPiece, digit_count, lowest_declared}
 pub use Rattle.sps_pass_two.specs.Types.{run_of}
 pub use Rattle.sps_pass_two.specs.Assembled.{AssembledText, PlacedText, assembled_text}
 pub use Rattle.sps_pass_two.specs.Making.{text_of_placed}

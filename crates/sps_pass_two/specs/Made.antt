@@ -7,8 +7,8 @@ use Rattle.sps_pass_one.specs.declared.fault.Fault.{Fault}
 use Rattle.sps_pass_one.specs.declared.operands.Answered.{Answered}
 use Rattle.sps_pass_one.specs.declared.place.Place.{Place}
 use Rattle.sps_pass_one.specs.Faults.{least}
-use Rattle.sps_pass_one.specs.Measure.{Answer}
-use Rattle.sps_pass_two.specs.declared.made.Made.{Made}
+use Rattle.sps_pass_one.specs.Measure.{OperandAnswer}
+use Rattle.sps_pass_two.specs.declared.made.MadeSoFar.{MadeSoFar}
 use Rattle.sps_pass_two.specs.declared.outcome.StatementOutcome.{StatementOutcome as MadeOutcome}
 use Rattle.sps_pass_two.specs.Operands.{StatementOutcome}
 use Rattle.sps_pass_two.specs.Broken.{begins_at}
@@ -16,18 +16,18 @@ use Rattle.sps_pass_two.specs.Writing.{with_digits}
 use Rattle.sps_pass_two.specs.Making.{IsPlacedOn, start_after, placed_with}
 
 -- an operand was answered: the least of its faults and one before them, and its value
-pub record IsAnswer (before : Option Fault) (a : Answer) (r : Answered) : Type 0 where
+pub record IsAnswer (before : Option Fault) (a : OperandAnswer) (r : Answered) : Type 0 where
   pub worst : r.worst ≡ least before a.faults
   pub value : r.value ≡ a.value
 
 -- what was made of a statement gives an outcome: the least of its faults and one before them, and its digits
-pub record Gives (before : Option Fault) (o : StatementOutcome) (r : MadeOutcome) : Type 0 where
+pub record GivesOutcome (before : Option Fault) (o : StatementOutcome) (r : MadeOutcome) : Type 0 where
   pub worst : r.worst ≡ least before o.faults
   pub digits : r.digits.items ≡ o.digits
 
 -- one statement more was made: it stands at a place, and has digits
-pub record Adds (ended : Bool) (head : Option ℕ) (symbols : List SymbolEntry) (place : Place) (s : StatementText) (digits : List Digit)
-    (old new : Made) : Type 0 where
+pub record AddsMadeStatement (ended : Bool) (head : Option ℕ) (symbols : List SymbolEntry) (place : Place) (s : StatementText) (digits : List Digit)
+    (old new : MadeSoFar) : Type 0 where
   pub cells : new.cells.items ≡ with_digits old.cells.items (begins_at place s) digits
   pub start : new.start ≡ start_after ended old.start head symbols place s
   pub placed : IsPlacedOn old.placed.items (placed_with ended place s digits) new.placed.items

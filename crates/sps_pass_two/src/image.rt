@@ -54,10 +54,10 @@ pub struct Pieces(Vec<Piece>);
 
 impl Model for Pieces {
     ghost use Rattle.std.specs.Prelude.{List, map};
-    ghost use Rattle.sps_pass_two.specs.Image.{Run};
+    ghost use Rattle.sps_pass_two.specs.Image.{DigitRun};
     ghost use Rattle.sps_pass_two.specs.Types.{run_of};
 
-    ghost Value = { List Run };
+    ghost Value = { List DigitRun };
 
     ghost view = { λ p. map run_of p.0.items };
 }

@@ -6,7 +6,7 @@ ghost use Rattle.sps_pass_two.specs.Assembled.{is_instruction, counts_as_instruc
 ghost use Rattle.sps_pass_two.specs.Broken.{first_address};
 ghost use Rattle.sps_pass_two.specs.Writing.{with_digits};
 ghost use Rattle.sps_pass_two.specs.Tasks.{start_value_in, text_in};
-ghost use Rattle.sps_pass_two.specs.Made.{Adds};
+ghost use Rattle.sps_pass_two.specs.Made.{AddsMadeStatement};
 
 use crate::assembled::Placed;
 use crate::cells::{empty_image, write};
@@ -22,7 +22,7 @@ use std::alloc::{AllocError, Global};
 
 // What was made of the statements so far.
 #[derive(Drop)]
-pub(crate) struct Made {
+pub(crate) struct MadeSoFar {
     // The digit of each address.
     pub(crate) cells: Vec<Option<Digit>>,
     // What the first DEND gave as the start, or 0.
@@ -32,12 +32,12 @@ pub(crate) struct Made {
 }
 
 // What is made of no statement, for a core of so many positions.
-pub(crate) fn nothing_made(alloc: Global, positions: u32) -> Result<Made, AllocError>
+pub(crate) fn nothing_made(alloc: Global, positions: u32) -> Result<MadeSoFar, AllocError>
     ensures cells { IfOk result (λ made. made.cells.items ≡ replicate positions None) }
     ensures start { IfOk result (λ made. made.start ≡ 0) }
     ensures placed { IfOk result (λ made. made.placed.items ≡ []) }
 {
-    Ok(Made {
+    Ok(MadeSoFar {
         cells: empty_image(alloc, positions)?,
         start: 0,
         placed: Vec::new(alloc),
@@ -51,7 +51,7 @@ fn is_instruction(operation: Option<Operation>) -> bool
 }
 
 // What the operand of a DEND comes to.
-fn start_value(task: &Task<'_>) -> u32
+fn start_value_in(task: &Task<'_>) -> u32
     ensures { result ≡ start_value_in task.now }
 {
     let scope = Scope {
@@ -78,10 +78,10 @@ fn placed_with(task: &Task<'_>, digits: Vec<Digit>) -> Placed
     }
 }
 
-impl Made {
+impl MadeSoFar {
     // One statement more, which stands at a place and breaks no rule.
     pub(crate) fn add(&mut self, task: &Task<'_>, digits: Vec<Digit>) -> Result<(), AllocError>
-        ensures { OnOk result (Adds task.now.ended task.now.head task.now.symbols.now task.now.place
+        ensures { OnOk result (AddsMadeStatement task.now.ended task.now.head task.now.symbols.now task.now.place
             (text_in task.now) digits.items self.old self.new) }
     {
         let from = first_address(operation_of(task.statement), task.place);
@@ -89,7 +89,7 @@ impl Made {
         let active = counts_if(task.ended, task.statement.shape);
         let ends = ends_if(task.ended, active, task.statement);
         if ends && !task.ended {
-            self.start = start_value(task);
+            self.start = start_value_in(task);
         }
         let placed = placed_with(task, digits);
         self.placed.push(placed)?;

@@ -9,7 +9,7 @@ ghost use Rattle.digit_core.specs.declared.TheConstants.{MOST_POSITIONS};
 use crate::assembled::{AsmFault, Assembled, PlacedList};
 use crate::cells::pieces_of;
 use crate::image::Image;
-use crate::made::{Made, nothing_made};
+use crate::made::{MadeSoFar, nothing_made};
 use crate::refuse::end_faults;
 use crate::statement::statement_outcome;
 use crate::task::Task;
@@ -18,7 +18,7 @@ use sps_scan::scan;
 use std::alloc::{AllocError, Global};
 
 // The image's pieces, the start and the statements of a source that breaks no rule.
-fn assembled(alloc: Global, made: Made) -> Result<Assembled, AllocError>
+fn assembled(alloc: Global, made: MadeSoFar) -> Result<Assembled, AllocError>
     requires size { length made.cells.items ≤ MOST_POSITIONS }
     requires kept { IsImage (pieces_from 0 made.cells.items) }
     requires program { IsProgram (pieces_from 0 made.cells.items) made.start }

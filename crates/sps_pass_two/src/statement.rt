@@ -8,14 +8,14 @@ ghost use Rattle.sps_expr.specs.Symbol.{find};
 ghost use Rattle.sps_pass_one.specs.Faults.{least};
 ghost use Rattle.sps_pass_one.specs.Measure.{measure, form_of};
 ghost use Rattle.sps_pass_one.specs.Layout.{counts_if, operation_of, is_label};
-ghost use Rattle.sps_pass_two.specs.Made.{Gives};
+ghost use Rattle.sps_pass_two.specs.Made.{GivesOutcome};
 ghost use Rattle.sps_pass_two.specs.DigitList.{digit_list};
 ghost use Rattle.sps_pass_two.specs.Digits.{constant_of, text_digits};
 ghost use Rattle.sps_pass_two.specs.Broken.{is_card, is_bad_column, is_long, line_faults, is_earlier, label_faults, is_bad_constant, constant_faults, constant_digits, constant_outcome, digits_or_none, is_bad_start, start_faults, first_address, is_outside};
 ghost use Rattle.sps_pass_two.specs.Tasks.{own_outcome_in, declared_outcome_in, outcome_in, counting_outcome_in, outcome_if_in, statement_outcome_in};
 ghost use Rattle.digit_core.specs.declared.TheConstants.{MOST_POSITIONS};
 
-use crate::digits::{constant_of, filled_to, flag_first, plain, repeated, text_digits};
+use crate::digits::{constant_of, filled_to, flag_first, repeated, text_digits, unflagged_digit};
 use crate::operands::{Coded, dda_outcome, dsa_outcome, instruction_outcome, operand_ask};
 use crate::outcome::StatementOutcome;
 use crate::task::Task;
@@ -102,7 +102,7 @@ fn constant_outcome(
     n: u64,
     s: &Statement<'_>,
 ) -> Result<StatementOutcome, AllocError>
-    ensures { IfOk result (Gives worst (constant_outcome n (statement_text s.now))) }
+    ensures { IfOk result (GivesOutcome worst (constant_outcome n (statement_text s.now))) }
 {
     let found = constant_of(alloc, part_at(s, 1))?;
     let worst = if lacks(s, 1) {
@@ -170,7 +170,7 @@ fn own_outcome(
     n: u64,
 ) -> Result<StatementOutcome, AllocError>
     requires { task.now.positions ≤ MOST_POSITIONS }
-    ensures { IfOk result (Gives worst (own_outcome_in d task.now n)) }
+    ensures { IfOk result (GivesOutcome worst (own_outcome_in d task.now n)) }
 {
     let s = task.statement;
     let scope = Scope {
@@ -199,11 +199,11 @@ fn own_outcome(
         }
         Declarative::Dsa => dsa_outcome(alloc, worst, s, &scope),
         Declarative::Dnb => {
-            let digits = repeated(alloc, plain(12), n)?;
+            let digits = repeated(alloc, unflagged_digit(12), n)?;
             Ok(StatementOutcome { worst, digits })
         }
         Declarative::Dgm => {
-            let digits = repeated(alloc, plain(15), 1)?;
+            let digits = repeated(alloc, unflagged_digit(15), 1)?;
             Ok(StatementOutcome { worst, digits })
         }
         Declarative::Dda => dda_outcome(alloc, worst, s, &scope),
@@ -223,7 +223,7 @@ fn declared_outcome(
     task: &Task<'_>,
 ) -> Result<StatementOutcome, AllocError>
     requires { task.now.positions ≤ MOST_POSITIONS }
-    ensures { IfOk result (Gives worst (declared_outcome_in d task.now)) }
+    ensures { IfOk result (GivesOutcome worst (declared_outcome_in d task.now)) }
 {
     let scope = Scope {
         head: task.head,
@@ -243,7 +243,7 @@ fn outcome_of(
     task: &Task<'_>,
 ) -> Result<StatementOutcome, AllocError>
     requires { task.now.positions ≤ MOST_POSITIONS }
-    ensures { IfOk result (Gives worst (outcome_in task.now)) }
+    ensures { IfOk result (GivesOutcome worst (outcome_in task.now)) }
 {
     match operation_of(task.statement) {
         None => Ok(faults_alone(alloc, broken_if(worst, true, Rule::UnknownOperation))),
@@ -300,7 +300,7 @@ fn counting_outcome(
     task: &Task<'_>,
 ) -> Result<StatementOutcome, AllocError>
     requires { task.now.positions ≤ MOST_POSITIONS }
-    ensures { IfOk result (Gives worst (counting_outcome_in task.now)) }
+    ensures { IfOk result (GivesOutcome worst (counting_outcome_in task.now)) }
 {
     let name = trimmed(task.statement.label);
     let worst = label_faults(worst, task.head, task.symbols, name, task.number);
@@ -321,7 +321,7 @@ fn outcome_if(
     active: bool,
 ) -> Result<StatementOutcome, AllocError>
     requires { task.now.positions ≤ MOST_POSITIONS }
-    ensures { IfOk result (Gives worst (outcome_if_in active task.now)) }
+    ensures { IfOk result (GivesOutcome worst (outcome_if_in active task.now)) }
 {
     if active {
         counting_outcome(alloc, worst, task)
@@ -337,7 +337,7 @@ pub(crate) fn statement_outcome(
     task: &Task<'_>,
 ) -> Result<StatementOutcome, AllocError>
     requires { task.now.positions ≤ MOST_POSITIONS }
-    ensures { IfOk result (Gives None (statement_outcome_in task.now)) }
+    ensures { IfOk result (GivesOutcome None (statement_outcome_in task.now)) }
 {
     let shape = task.statement.shape;
     let worst = line_faults(shape, task.ended, task.number);

@@ -1,4 +1,4 @@
-pub mod Allowed
+pub mod AllowedTable
 pub mod Fronts
 pub mod Parting
 pub mod Places

@@ -8,9 +8,9 @@ use Rattle.sps_ops.specs.Parts.{most_parts}
 use Rattle.sps_scan.specs.declared.statement.Shape.{Shape}
 use Rattle.sps_scan.specs.Columns.{columns, before_comma, after_comma, has_comma}
 use Rattle.sps_scan.specs.Numbers.{short_number}
-use Rattle.sps_scan.specs.Operands.{Operands, parts_of, remark_of, parts_and_remark, behind_text, behind_number, dac_operands, has_text, operands_of}
+use Rattle.sps_scan.specs.Operands.{OperandParts, parts_of, remark_of, parts_and_remark, behind_text, behind_number, dac_operands, has_text, operands_of}
 use Rattle.sps_scan.specs.Statement.{StatementText, without_parts, with_operands}
-use Rattle.sps_scan.specs.Spans.{Span, text_at, AreInOrder, Follows, FollowOn, ArePartedFrom, AreInPlace}
+use Rattle.sps_scan.specs.Spans.{LineSpan, span_text, AreInOrder, Follows, FollowOn, ArePartedFrom, AreInPlace}
 
 -- a line from one place to another
 abbrev stretch : List ℕ → ℕ → ℕ → List ℕ
@@ -18,20 +18,20 @@ stretch line at to = take (to - at) (drop at line)
 
 -- these parts and this remark stand between two places of a line
 record Stand (line : List ℕ) (at to : ℕ) (parts : List (List ℕ)) (remark : List ℕ) : Type 0 where
-  spans : List Span
-  behind : Span
-  parts_at : map (text_at line) spans ≡ parts
-  remark_at : text_at line behind ≡ remark
+  spans : List LineSpan
+  behind : LineSpan
+  parts_at : map (span_text line) spans ≡ parts
+  remark_at : span_text line behind ≡ remark
   order : AreInOrder at to (spans ++ behind ∷ [])
   parted : ArePartedFrom line at (spans ++ behind ∷ [])
 
 -- spans that lie from a place on lie from an earlier one on
-sooner : (at next to : ℕ) (spans : List Span) → at ≤ next → AreInOrder next to spans → AreInOrder at to spans
+sooner : (at next to : ℕ) (spans : List LineSpan) → at ≤ next → AreInOrder next to spans → AreInOrder at to spans
 sooner at next to [] before o = omega arith
 sooner at next to (span ∷ spans) before o = (omega (arith, o.0), o.1)
 
 -- spans that begin at a place follow an end that the place follows
-follow_on : (line : List ℕ) (end next : ℕ) (spans : List Span) → Follows line end next → ArePartedFrom line next spans → FollowOn line end spans
+follow_on : (line : List ℕ) (end next : ℕ) (spans : List LineSpan) → Follows line end next → ArePartedFrom line next spans → FollowOn line end spans
 follow_on line end next [] follows p = tt
 follow_on line end next (span ∷ spans) follows p = (subst (Follows line end) (sym p.0) follows, p.1)
 
@@ -269,7 +269,7 @@ dac_stands line at to fits = by_test (has_comma (stretch line at to))
     rw h (subst (λ rest. Stand line at to (behind_number (before_comma text) rest (short_number (before_comma text))).parts (behind_number (before_comma text) rest (short_number (before_comma text))).remark) (sym (behind_at line at to fits h)) stands))
     (λ h. rw h (only_part line at to fits))
 
-either_stands : (line : List ℕ) (at to : ℕ) (b : Bool) (x y : Operands) → Stand line at to x.parts x.remark → Stand line at to y.parts y.remark → Stand line at to (if b then x else y).parts (if b then x else y).remark
+either_stands : (line : List ℕ) (at to : ℕ) (b : Bool) (x y : OperandParts) → Stand line at to x.parts x.remark → Stand line at to y.parts y.remark → Stand line at to (if b then x else y).parts (if b then x else y).remark
 either_stands line at to true x y s t = s
 either_stands line at to false x y s t = t
 

@@ -3,13 +3,13 @@ use Rattle.std.proofs.Common.{◌≡◌, ℕ, ◌≤◌, ◌<◌, Bool, true, fa
 use Rattle.std.proofs.lemmas.Bool.Decides.{nat_tests}
 use Rattle.sps_scan.specs.declared.statement.Shape.{Shape}
 use Rattle.sps_scan.specs.declared.statement.Shape.TheVariants.{BadColumn, Plain}
-use Rattle.sps_scan.specs.Operands.{Operands, operands_of, ten_parts}
+use Rattle.sps_scan.specs.Operands.{OperandParts, operands_of, ten_parts}
 use Rattle.sps_ops.specs.Operations.{lookup_of}
 use Rattle.sps_scan.specs.Columns.{columns, is_blank}
 use Rattle.sps_scan.specs.Statement.{all_allowed, parts_allowed, shape_of, with_operands, statement_of, is_comment, holds_nothing}
 
 -- the statement of these texts
-pub plain_is : (line front label operation remark : List ℕ) (parts : List (List ℕ)) (count : ℕ) (shape : Shape) (o : Operands) → label ≡ columns 6 11 line → operation ≡ columns 12 15 line → front ≡ columns 6 15 line → parts ≡ ten_parts o.parts → count ≡ length o.parts → remark ≡ o.remark → shape ≡ shape_of front o.parts →
+pub plain_is : (line front label operation remark : List ℕ) (parts : List (List ℕ)) (count : ℕ) (shape : Shape) (o : OperandParts) → label ≡ columns 6 11 line → operation ≡ columns 12 15 line → front ≡ columns 6 15 line → parts ≡ ten_parts o.parts → count ≡ length o.parts → remark ≡ o.remark → shape ≡ shape_of front o.parts →
     record { shape = shape; label = label; operation = operation; parts = parts; count = count; remark = remark } ≡ with_operands line o
 plain_is line front label operation remark parts count shape o a b c d e f g = rw (g, a, b, c, d, e, f)
 

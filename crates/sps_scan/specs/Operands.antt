@@ -9,7 +9,7 @@ use Rattle.sps_scan.specs.Columns.{before_comma, after_comma, has_comma}
 use Rattle.sps_scan.specs.Numbers.{short_number}
 
 -- the parts that there are, and the remark
-pub record Operands : Type 0 where
+pub record OperandParts : Type 0 where
   pub parts : List (List ℕ)
   pub remark : List ℕ
 
@@ -24,23 +24,23 @@ remark_of zero text = text
 remark_of (suc n) text = if has_comma text then remark_of n (after_comma text) else []
 
 -- at most so many parts, and the remark behind them
-abbrev pub parts_and_remark : ℕ → List ℕ → Operands
+abbrev pub parts_and_remark : ℕ → List ℕ → OperandParts
 parts_and_remark most text = record { parts = parts_of most text; remark = remark_of most text }
 
 -- what stands behind the text of a DAC: a third part where a comma comes at once, else the remark
-abbrev pub behind_text : List ℕ → List ℕ → List ℕ → Operands
+abbrev pub behind_text : List ℕ → List ℕ → List ℕ → OperandParts
 behind_text first second [] = record { parts = first ∷ second ∷ []; remark = [] }
 behind_text first second (b ∷ bs) =
     if b == 44 then record { parts = first ∷ second ∷ before_comma bs ∷ []; remark = after_comma bs }
     else record { parts = first ∷ second ∷ []; remark = b ∷ bs }
 
 -- what stands behind the first comma of a DAC: a text of so many columns, or no text and the remark where the first part is no number
-abbrev pub behind_number : List ℕ → List ℕ → Option ℕ → Operands
+abbrev pub behind_number : List ℕ → List ℕ → Option ℕ → OperandParts
 behind_number first rest None = record { parts = first ∷ [] ∷ []; remark = rest }
 behind_number first rest (Some n) = behind_text first (take n rest) (drop n rest)
 
 -- the operands of a DAC, whose text may have commas
-abbrev pub dac_operands : List ℕ → Operands
+abbrev pub dac_operands : List ℕ → OperandParts
 dac_operands text =
     if has_comma text then behind_number (before_comma text) (after_comma text) (short_number (before_comma text))
     else record { parts = before_comma text ∷ []; remark = [] }
@@ -51,7 +51,7 @@ has_text (Some (Declare Dac)) = true
 has_text operation = false
 
 -- the operands, by the operation
-abbrev pub operands_of : Option Operation → List ℕ → Operands
+abbrev pub operands_of : Option Operation → List ℕ → OperandParts
 operands_of operation text = if has_text operation then dac_operands text else parts_and_remark (most_parts operation) text
 
 -- ten texts: the parts, and empty ones behind them

@@ -9,7 +9,7 @@ use Rattle.sps_scan.specs.declared.statement.Statement.{Statement}
 use Rattle.card_code.specs.Pairs.{alpha_of}
 use Rattle.sps_ops.specs.Operations.{lookup_of}
 use Rattle.sps_scan.specs.Columns.{columns, is_blank}
-use Rattle.sps_scan.specs.Operands.{Operands, operands_of, ten_parts}
+use Rattle.sps_scan.specs.Operands.{OperandParts, operands_of, ten_parts}
 
 -- a statement with its texts in place of slices
 pub record StatementText : Type 0 where
@@ -77,7 +77,7 @@ without_parts shape = record {
 }
 
 -- a line with an operation
-abbrev pub with_operands : List ℕ → Operands → StatementText
+abbrev pub with_operands : List ℕ → OperandParts → StatementText
 with_operands line o = record {
   shape = shape_of (columns 6 15 line) o.parts;
   label = columns 6 11 line;

@@ -10,14 +10,14 @@ use sps_ops::{Declarative, Operation, most_parts};
 
 // The parts of the operands, the number of parts that there are, and the remark.
 #[derive(Clone, Copy)]
-pub(crate) struct Operands<'a> {
+pub(crate) struct OperandParts<'a> {
     pub(crate) parts: [&'a [u8]; 10],
     pub(crate) count: usize,
     pub(crate) remark: &'a [u8],
 }
 
 // The operands in columns 16 to 75, by the operation.
-pub(crate) fn operands_of<'a>(operation: Option<Operation>, text: &'a [u8]) -> Operands<'a>
+pub(crate) fn operands_of<'a>(operation: Option<Operation>, text: &'a [u8]) -> OperandParts<'a>
     ensures parts { map now_of result.parts ≡ ten_parts (operands_of operation text.now).parts }
     ensures count { result.count ≡ length (operands_of operation text.now).parts }
     ensures few { result.count ≤ 10 }
@@ -38,7 +38,7 @@ fn has_text(operation: Option<Operation>) -> bool
 }
 
 // At most so many parts, each ended by a comma or by the end of the text.
-fn parted<'a>(most: usize, text: &'a [u8]) -> Operands<'a>
+fn parted<'a>(most: usize, text: &'a [u8]) -> OperandParts<'a>
     requires some { 1 ≤ most }
     requires ten { most ≤ 10 }
     ensures parts { map now_of result.parts ≡ ten_parts (parts_of most text.now) }
@@ -56,7 +56,7 @@ fn parted<'a>(most: usize, text: &'a [u8]) -> Operands<'a>
         count += 1;
         match behind {
             None => {
-                return Operands {
+                return OperandParts {
                     parts,
                     count,
                     remark: nothing,
@@ -65,7 +65,7 @@ fn parted<'a>(most: usize, text: &'a [u8]) -> Operands<'a>
             Some(behind) => rest = behind,
         }
     }
-    Operands {
+    OperandParts {
         parts,
         count,
         remark: rest,
@@ -73,7 +73,7 @@ fn parted<'a>(most: usize, text: &'a [u8]) -> Operands<'a>
 }
 
 // The parts of a DAC: a number of columns, the text of those columns, and an address.
-fn dac_operands<'a>(text: &'a [u8]) -> Operands<'a>
+fn dac_operands<'a>(text: &'a [u8]) -> OperandParts<'a>
     ensures parts { map now_of result.parts ≡ ten_parts (dac_operands text.now).parts }
     ensures count { result.count ≡ length (dac_operands text.now).parts }
     ensures few { result.count ≤ 10 }
@@ -84,14 +84,14 @@ fn dac_operands<'a>(text: &'a [u8]) -> Operands<'a>
     let (first, behind) = split_comma(text);
     parts[0] = first;
     let Some(rest) = behind else {
-        return Operands {
+        return OperandParts {
             parts,
             count: 1,
             remark: nothing,
         };
     };
     let Some(n) = short_number(first) else {
-        return Operands {
+        return OperandParts {
             parts,
             count: 2,
             remark: rest,
@@ -104,13 +104,13 @@ fn dac_operands<'a>(text: &'a [u8]) -> Operands<'a>
         [comma, behind @ ..] if *comma == b',' => {
             let (third, remark) = last_part(behind);
             parts[2] = third;
-            Operands {
+            OperandParts {
                 parts,
                 count: 3,
                 remark,
             }
         }
-        _ => Operands {
+        _ => OperandParts {
             parts,
             count: 2,
             remark: behind,

@@ -8,13 +8,13 @@ use lib.Count.{ones}
 use Rattle.digit_core.specs.declared.Digit.{Digit}
 use Rattle.digit_core.specs.Cell.{cell, has_flag, IsGood}
 use Rattle.digit_core.specs.Packed.{six}
-use Rattle.digit_core.specs.Search.{is_bad, is_undecimal}
+use Rattle.digit_core.specs.Search.{is_bad_cell, is_undecimal}
 use Rattle.digit_core.specs.Within.{AreGoodUpTo, EndsField}
 use Rattle.digit_core.specs.Written.{core_with_word}
 use Rattle.digit_core.proofs.Below.{same_below}
-use Rattle.digit_core.proofs.Sound.{good_cell}
+use Rattle.digit_core.proofs.SoundCore.{good_cell}
 use Rattle.digit_core.proofs.Writing.{length_written, written_in, written_out}
-use Rattle.table_arith.specs.Values.{value, flag_at, IsField}
+use Rattle.table_arith.specs.Values.{value, flag_at, IsNumberField}
 use Rattle.table_arith.specs.Numbers.{value_above_units, digits_at, HoldsNumber}
 use Rattle.table_arith.specs.Words.{digit_within, number_within}
 use Rattle.table_arith.proofs.WordNumbers.{same_digits}
@@ -73,7 +73,7 @@ module _ (core : List ℕ) (p n w : ℕ) (inside : p < length core) (nine : 9 �
         | inr none ↦ (let e : k ≡ 0 = omega arith in let two = ends.two in rw e (with_flag 0 (has_flag (six w 9)) (omega arith) refl))
       ]
 
-  pub field_there : IsField core p (has_flag (six w 9)) (digits_at core p n)
+  pub field_there : IsNumberField core p (has_flag (six w 9)) (digits_at core p n)
   field_there =
       let two = ends.two in
       let ten = ends.ten in
@@ -112,4 +112,4 @@ number_good n w magnitude minus digits j below =
     let at : n - 1 - (n - 1 - j) ≡ j = omega arith in
     let d : Digit = record { flag = flag_at minus n (n - 1 - j); value = magnitude / 10 ^ (n - 1 - j) % 10 } in
     let good : IsGood d = grind (arith, nat_tests) in
-    ap is_bad (rw at at (digits (n - 1 - j) (omega arith))) ∙ good_cell d good
+    ap is_bad_cell (rw at at (digits (n - 1 - j) (omega arith))) ∙ good_cell d good

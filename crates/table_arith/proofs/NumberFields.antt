@@ -6,7 +6,7 @@ use Rattle.std.proofs.lemmas.Bool.Decides.{nat_tests}
 use Rattle.digit_core.specs.declared.Digit.{Digit}
 use Rattle.digit_core.specs.Cell.{cell, read_cell}
 use Rattle.digit_core.proofs.Digits.{cell-read_cell}
-use Rattle.table_arith.specs.Values.{IsField, flag_at}
+use Rattle.table_arith.specs.Values.{IsNumberField, flag_at}
 use Rattle.table_arith.specs.Numbers.{value_above_units, digits_at}
 use Rattle.table_arith.proofs.NumberDigits.{length_digits, digit_is}
 
@@ -51,7 +51,7 @@ module _ (core : List ℕ) (p i : ℕ) (sign : Bool) (inside : p < length core) 
             rw e (last ∙ ap (λ b. cell (record { flag = b; value = value_above_units core p i })) (sym (last_flag sign i some)))
       ]
 
-  pub field_made : IsField core p sign (digits_at core p (i + 1))
+  pub field_made : IsNumberField core p sign (digits_at core p (i + 1))
   field_made =
       let n = length_digits core p (i + 1) in
       record {

@@ -19,7 +19,7 @@ use addr_indirect::Stop;
 use digit_core::Core;
 use indicators::{OVERFLOW, Panel};
 use numbers::{quick_comparison, quick_sum};
-use sums::{comparison_cycles, sum_cycles};
+use sums::{comparison, sum_cycles};
 
 mod cycles;
 mod numbers;
@@ -118,7 +118,7 @@ fn compare_by_cycles<const M: u32>(
     requires q { q < size M }
     ensures { Compares core.now panel.old p q panel.new result }
 {
-    let shown = comparison_cycles(core, p, q)?;
+    let shown = comparison(core, p, q)?;
     show(panel, shown);
     Ok(())
 }

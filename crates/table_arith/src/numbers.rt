@@ -242,7 +242,7 @@ fn compared_numbers(x: Number, y: Number) -> Shown
 {
     let b = within(x, y);
     let complement = complements(Kind::Subtract, x.negative, y.negative);
-    let zero = are_equal(complement, x.magnitude, b);
+    let zero = equal_test(complement, x.magnitude, b);
     let below = complement && x.magnitude < b;
     let negative = x.negative != below;
     Shown {
@@ -254,7 +254,7 @@ fn compared_numbers(x: Number, y: Number) -> Shown
 
 // Whether two numbers are equal, by their magnitudes and whether their signs agree.
 #[inline(always)]
-fn are_equal(complement: bool, a: u64, b: u64) -> bool
+fn equal_test(complement: bool, a: u64, b: u64) -> bool
     ensures { result ≡ equal_test complement a b }
 {
     if complement { a == b } else { a == 0 && b == 0 }

@@ -102,7 +102,7 @@ pub(crate) fn sum_cycles<const M: u32>(
 }
 
 // What a comparison's pass shows.
-fn compared(sign: bool, complement: bool, r: Passed) -> Shown
+fn comparison_result(sign: bool, complement: bool, r: Passed) -> Shown
     ensures { result ≡ comparison_result sign complement r }
 {
     Shown {
@@ -114,7 +114,7 @@ fn compared(sign: bool, complement: bool, r: Passed) -> Shown
 
 // The cycles of a comparison.
 #[tactic(auto, unfolding(crate::specs::Sum::comparison))]
-pub(crate) fn comparison_cycles<const M: u32>(core: &Core<M>, p: u32, q: u32) -> Result<Shown, Stop>
+pub(crate) fn comparison<const M: u32>(core: &Core<M>, p: u32, q: u32) -> Result<Shown, Stop>
     requires p { p < size M }
     requires q { q < size M }
     ensures { result ≡ comparison core.now p q }
@@ -123,5 +123,5 @@ pub(crate) fn comparison_cycles<const M: u32>(core: &Core<M>, p: u32, q: u32) ->
     let q_units = decimal_at(core, q)?;
     let complement = complements(Kind::Subtract, p_units.flag, q_units.flag);
     let r = comparison_pass(core, p, q, complement)?;
-    Ok(compared(p_units.flag, complement, r))
+    Ok(comparison_result(p_units.flag, complement, r))
 }

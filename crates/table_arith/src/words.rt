@@ -42,7 +42,7 @@ fn cleared_below(w: u64, below: u32) -> u64
 
 // The numbers of a word's five pairs of digits, twelve bits each.
 #[inline(always)]
-fn pairs_in(w: u64) -> u64
+fn pairs_within(w: u64) -> u64
     requires { w < 2 ^ 60 }
     ensures { result ≡ pairs_within w }
 {
@@ -67,7 +67,7 @@ pub(crate) fn magnitude_from(w: u64, below: u32) -> u64
     ensures { result ≡ number_within w (10 - below) }
 {
     let field = cleared_below(w, below);
-    let pairs = pairs_in(field);
+    let pairs = pairs_within(field);
     number_of_pairs(pairs)
 }
 

@@ -10,10 +10,10 @@ use Rattle.card_code.specs.declared.lines.LineAnswer.{LineAnswer}
 use Rattle.card_code.specs.declared.lines.LineAnswer.TheVariants as answer
 use Rattle.card_code.specs.LineText.{text_of_line}
 use Rattle.card_code.specs.Entries.{Entry, Text, Long, next_keys}
-use Rattle.card_code.specs.Reader.{unit_of, Moves, Fronts, HasNone, NextLine as NextOfUnit, NextEntry}
+use Rattle.card_code.specs.Reader.{unit_of, AsksUnit, Fronts, HasNone, NextLine as NextOfUnit, NextEntry}
 use Rattle.card_code.proofs.LineEntries.{next_moves}
 use Rattle.typewriter.specs.declared.keyboard.Keyboard.{Keyboard}
-use Rattle.typewriter.specs.Keys.{keys_left, Looks, NextLine}
+use Rattle.typewriter.specs.Keys.{keys_left, LooksAtKeys, NextKeyLine}
 
 -- lines, where they are told
 abbrev Told : Type 0
@@ -36,13 +36,13 @@ long_next n (Some es) front = ap next_keys front
 
 module _ (old new : Keyboard) (before after : Seen) where
   -- bytes that are taken of the keyboard's lines are those of Keys
-  looks_moved : Moves old.lines new.lines before after → Looks before after
+  looks_moved : AsksUnit old.lines new.lines before after → LooksAtKeys before after
   looks_moved moves = record {
     taken = moves.taken;
     goes = subst (λ (u : unit.Unit). Goes before after (world_after_take u moves.taken before.world)) old.unit_is moves.goes;
   }
 
-  next_taken : (got : LineAnswer) → Looks before after → NextEntry units.Keys (keys_left old before.world) (keys_left new after.world) before after got → NextLine old new before after got
+  next_taken : (got : LineAnswer) → LooksAtKeys before after → NextEntry units.Keys (keys_left old before.world) (keys_left new after.world) before after got → NextKeyLine old new before after got
   next_taken (answer.Line line) looks entry = record {
     looks = looks;
     left = entry.0;
@@ -59,7 +59,7 @@ module _ (old new : Keyboard) (before after : Seen) where
   next_taken answer.Failed looks entry = record { stays = record { looks = looks; left = entry.0 }; rose = entry.1 }
 
   -- so what the lines of the unit answer, the keyboard answers
-  pub line_taken : (got : LineAnswer) → NextOfUnit old.lines new.lines before after got → NextEntry (unit_of old.lines) (keys_left old before.world) (keys_left new after.world) before after got → NextLine old new before after got
+  pub line_taken : (got : LineAnswer) → NextOfUnit old.lines new.lines before after got → NextEntry (unit_of old.lines) (keys_left old before.world) (keys_left new after.world) before after got → NextKeyLine old new before after got
   line_taken got line entry =
       next_taken got (looks_moved (next_moves old.lines new.lines before after got line))
       (subst (λ (u : unit.Unit). NextEntry u (keys_left old before.world) (keys_left new after.world) before after got) old.unit_is entry)

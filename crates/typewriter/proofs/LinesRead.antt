@@ -19,7 +19,7 @@ use Rattle.read_checks.specs.declared.Tally.{Tally}
 use Rattle.read_checks.specs.Readings.{Reading, counted, bad_in, bad_from, no_bad, with_bad, entry_read, no_lines, with_line, lines_after, AreNumbered}
 use Rattle.read_checks.proofs.OneMore.{counted_more, tally_more, tally_same, numbered_more}
 use Rattle.typewriter.specs.declared.keyboard.Keyboard.{Keyboard}
-use Rattle.typewriter.specs.Keys.{keys_left, IsInTurn, HasReadBy, line_taken, HasTaken, TakesReading, read_after, Begins}
+use Rattle.typewriter.specs.Keys.{keys_left, IsKeyboardInTurn, HasReadLinesBy, line_taken, HasTaken, TakesReading, read_after, IsNewKeyboard}
 
 -- a reading is one of Keys
 abbrev IsOfKeys : Reading → Type 0
@@ -56,9 +56,9 @@ all_more start readings r (Some es) next is front all =
     rw is (all ∙ ap (λ (left : List Entry). map entry_read readings ++ left) front ∙ entries_more readings r (behind es))
 
 -- A line is taken, or none.
-module _ (start : List Entry) (readings : List Reading) (old new : Keyboard) (before after : Seen) (turn : IsInTurn new after.world) (same : new.bad ≡ old.bad) (by : HasReadBy start readings old before.world) where
+module _ (start : List Entry) (readings : List Reading) (old new : Keyboard) (before after : Seen) (turn : IsKeyboardInTurn new after.world) (same : new.bad ≡ old.bad) (by : HasReadLinesBy start readings old before.world) where
   -- where none is, the readings are the same
-  none_taken : new.read ≡ old.read → keys_left new after.world ≡ keys_left old before.world → HasReadBy start readings new after.world
+  none_taken : new.read ≡ old.read → keys_left new after.world ≡ keys_left old before.world → HasReadLinesBy start readings new after.world
   none_taken read left = record {
     turn = turn;
     of_keys = by.of_keys;
@@ -69,7 +69,7 @@ module _ (start : List Entry) (readings : List Reading) (old new : Keyboard) (be
   }
 
   one_taken : (text : List ℕ) → new.read ≡ one_more old.read → keys_left new after.world ≡ option_map behind (keys_left old before.world) → Fronts (Text text) (keys_left old before.world)
-      → HasReadBy start (readings ++ line_taken new text ∷ []) new after.world
+      → HasReadLinesBy start (readings ++ line_taken new text ∷ []) new after.world
   unfolding bad_from
   one_taken text read left front = record {
     turn = turn;
@@ -87,7 +87,7 @@ module _ (start : List Entry) (readings : List Reading) (old new : Keyboard) (be
   reading_taken u answer.Failed read entry = none_taken read entry.0
 
 -- what the taking adds to the readings
-pub takes_reading : (old new : Keyboard) (before after : Seen) (u : unit.Unit) (got : LineAnswer) → (IsOneAhead old.lines before.world → IsInTurn new after.world) → new.bad ≡ old.bad → new.read ≡ read_after got old.read
+pub takes_reading : (old new : Keyboard) (before after : Seen) (u : unit.Unit) (got : LineAnswer) → (IsOneAhead old.lines before.world → IsKeyboardInTurn new after.world) → new.bad ≡ old.bad → new.read ≡ read_after got old.read
     → NextEntry u (keys_left old before.world) (keys_left new after.world) before after got → TakesReading old new before after got
 takes_reading old new before after u got turn same read entry = λ start readings by.
     reading_taken start readings old new before after (turn (is_ahead old.lines before.world by.turn)) same by u got read entry
@@ -103,7 +103,7 @@ module _ (start : List Entry) (readings : List Reading) (next new : Keyboard) (w
   numbered_so [] gone are = (are.0, tt)
   numbered_so (r ∷ more) gone are = (are.0, numbered_so more (with_line r.unit gone) are.1)
 
-  stored_so : HasReadBy start (readings ++ line_taken next text ∷ []) next w → HasReadBy start (readings ++ line_stored ∷ []) (record next { bad = with_bad (bad_in line_stored) next.bad }) w
+  stored_so : HasReadLinesBy start (readings ++ line_taken next text ∷ []) next w → HasReadLinesBy start (readings ++ line_stored ∷ []) (record next { bad = with_bad (bad_in line_stored) next.bad }) w
   unfolding bad_from
   stored_so by =
       let earlier = All-pop IsOfKeys (readings ++ line_taken next text ∷ []) readings (Some (line_taken next text)) refl by.of_keys in
@@ -116,8 +116,8 @@ module _ (start : List Entry) (readings : List Reading) (next new : Keyboard) (w
         all = subst (λ (es : List Entry). IfSome (keys_left next w) (λ left. start ≡ es ++ left)) (map-append entry_read readings (line_taken next text ∷ []) ∙ sym (map-append entry_read readings (line_stored ∷ []))) by.all;
       }
 
-  pub reading_stored : new ≡ record next { bad = with_bad (bad_in line_stored) next.bad } → HasReadBy start (readings ++ line_taken next text ∷ []) next w → HasReadBy start (readings ++ line_stored ∷ []) new w
-  reading_stored is by = subst (λ (k : Keyboard). HasReadBy start (readings ++ line_stored ∷ []) k w) (sym is) (stored_so by)
+  pub reading_stored : new ≡ record next { bad = with_bad (bad_in line_stored) next.bad } → HasReadLinesBy start (readings ++ line_taken next text ∷ []) next w → HasReadLinesBy start (readings ++ line_stored ∷ []) new w
+  reading_stored is by = subst (λ (k : Keyboard). HasReadLinesBy start (readings ++ line_stored ∷ []) k w) (sym is) (stored_so by)
 
 -- the tally stays where none of some is bad
 pub none_taken_up : (k : Keyboard) (bad : List BadCharacter) → bad ≡ [] → k ≡ record k { bad = with_bad bad k.bad }
@@ -125,7 +125,7 @@ unfolding with_bad
 none_taken_up k bad none = ap (λ (some : List BadCharacter). record k { bad = with_bad some k.bad }) (sym none)
 
 -- a keyboard that has read nothing
-pub begins : (k : Keyboard) → ((w : World) → IsInTurn k w) → k.read ≡ 0 → k.bad ≡ no_bad → Begins k
+pub begins : (k : Keyboard) → ((w : World) → IsKeyboardInTurn k w) → k.read ≡ 0 → k.bad ≡ no_bad → IsNewKeyboard k
 unfolding AreNumbered
 begins k turn read bad = λ start w all. record {
   readings = [];

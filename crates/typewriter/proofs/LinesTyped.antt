@@ -12,13 +12,13 @@ use Rattle.outside_io.specs.Whole.{Stops}
 use Rattle.outside_io.proofs.Worlds.{adds_on}
 use Rattle.addr_indirect.specs.declared.Stop.{Stop}
 use Rattle.traces.specs.Trace.{Trace, ends, does, does_all}
-use Rattle.card_code.specs.TextOut.{Output, Writes, bytes_of, lamps_of, panel_after_pair}
+use Rattle.card_code.specs.TextOut.{Output, Writes, bytes_out, lamps_of, panel_after_pair}
 use Rattle.card_code.specs.Written.{CarriedOut}
 use Rattle.card_code.proofs.TextsOut.{put_on}
 use Rattle.typewriter.specs.declared.typing.TypeIo.{TypeIo}
 use Rattle.typewriter.specs.declared.typing.TypeIo.TheVariants as io
 use Rattle.typewriter.specs.Typing.{Types, TypesPairs}
-use Rattle.typewriter.specs.Line.{HasOneMore, HasMore, AddsPair}
+use Rattle.typewriter.specs.Line.{HasOneMore, HasMoreWaiting, AddsPair}
 use Rattle.typewriter.proofs.PairsTyped.{pair_first}
 
 -- the first characters are typed, and then the rest
@@ -39,7 +39,7 @@ typed_one_more old c new t now mid after answer more rest =
     subst (λ (x : List ℕ). Types (record { effects = x; answer = t.answer }) now after answer) same (gone_first more.gone (does_all new t) now mid after answer more.goes rest)
 
 -- some more wait
-pub some_more : (old cs new : List ℕ) (t : Trace ℕ ⊤ Stop) (now mid after : Seen) (answer : TypeIo) → HasMore old cs new now mid → Types (does_all new t) mid after answer → Types (does_all old (does_all cs t)) now after answer
+pub some_more : (old cs new : List ℕ) (t : Trace ℕ ⊤ Stop) (now mid after : Seen) (answer : TypeIo) → HasMoreWaiting old cs new now mid → Types (does_all new t) mid after answer → Types (does_all old (does_all cs t)) now after answer
 some_more old cs new t now mid after answer more rest =
     let same : more.gone ++ (new ++ t.effects) ≡ old ++ (cs ++ t.effects) =
     sym (append_assoc more.gone new t.effects) ∙ ap (λ (x : List ℕ). x ++ t.effects) more.parts ∙ append_assoc old cs t.effects in
@@ -59,7 +59,7 @@ line_failed line t now after stops = record {
 }
 
 -- bytes alone, as effects
-writes_bytes : (bytes : List ℕ) → bytes_of (map Writes bytes) ≡ bytes
+writes_bytes : (bytes : List ℕ) → bytes_out (map Writes bytes) ≡ bytes
 writes_bytes [] = refl
 writes_bytes (b ∷ bytes) = ap (λ (x : List ℕ). b ∷ x) (writes_bytes bytes)
 

@@ -6,7 +6,7 @@ use Rattle.std.specs.Prelude.{⊤, Bool, ◌/◌, count_ones, if◌then◌else�
 use Rattle.digit_core.specs.declared.Digit.{Digit}
 use Rattle.digit_core.specs.declared.CellFault.{CellFault}
 use Rattle.digit_core.specs.declared.CellFault.TheVariants.{EvenParity, BadValue}
-use Rattle.digit_core.specs.Cell.{read_cell, is_value}
+use Rattle.digit_core.specs.Cell.{read_cell, is_cell_value}
 use Rattle.digit_core.specs.declared.TheConstants.{RECORD_MARK}
 use Rattle.digit_core.specs.Packed.{six}
 use Rattle.digit_core.specs.Search.{has_mark}
@@ -84,7 +84,7 @@ tested_typed false true flag v a c t is other =
 char_typed : (a cell c : ℕ) (t : Trace ℕ ⊤ Stop) → map_answer object_char (read_cell cell) ≡ Ok c → has_mark cell ≡ false
     → (or_stop a (read_cell cell) >>= (λ d. if d.value == RECORD_MARK then ends (Ok tt) else does (object_char d) t)) ≡ does c t
 unfolding read_cell tested
-char_typed a cell c t is other = tested_typed (count_ones cell % 2 == 0) (is_value (cell % 16)) (cell / 16 % 2 == 1) (cell % 16) a c t is other
+char_typed a cell c t is other = tested_typed (count_ones cell % 2 == 0) (is_cell_value (cell % 16)) (cell / 16 % 2 == 1) (cell % 16) a c t is other
 
 cells_typed : (core chars : List ℕ) (a : ℕ) → a + length chars ≤ length core → ((j : ℕ) → j < length chars → map_answer object_char (read_cell (get_or core (a + j) 0)) ≡ Ok (get_or chars j 0))
     → ((j : ℕ) → j < length chars → has_mark (get_or core (a + j) 0) ≡ false) → type_cells a (drop a core) ≡ does_all chars (type_cells (a + length chars) (drop (a + length chars) core))
@@ -128,7 +128,7 @@ tested_other false true flag v d is other =
 
 other_value : (cell : ℕ) (d : Digit) → read_cell cell ≡ Ok d → has_mark cell ≡ false → (d.value == RECORD_MARK) ≡ false
 unfolding read_cell tested
-other_value cell d is other = tested_other (count_ones cell % 2 == 0) (is_value (cell % 16)) (cell / 16 % 2 == 1) (cell % 16) d is other
+other_value cell d is other = tested_other (count_ones cell % 2 == 0) (is_cell_value (cell % 16)) (cell / 16 % 2 == 1) (cell % 16) d is other
 
 -- the pair number k of a word's five, and then the others
 module _ (core : List ℕ) (a w : ℕ) (pairs : ArePairs core a w) where

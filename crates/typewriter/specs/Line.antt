@@ -14,19 +14,19 @@ pub record HasOneMore (old : List ℕ) (c : ℕ) (new : List ℕ) (before after 
   pub goes : Goes before after (world_after_put units.Typed gone before.world)
 
 -- what the adding of a character does
-abbrev pub Adds : List ℕ → ℕ → List ℕ → Seen → Seen → Sent → Type 0
-Adds old c new before after sent.Done = HasOneMore old c new before after
-Adds old c new before after sent.Failed = Stops before after units.Typed old
+abbrev pub AddsChar : List ℕ → ℕ → List ℕ → Seen → Seen → Sent → Type 0
+AddsChar old c new before after sent.Done = HasOneMore old c new before after
+AddsChar old c new before after sent.Failed = Stops before after units.Typed old
 
 -- some more wait
-pub record HasMore (old cs new : List ℕ) (before after : Seen) : Type 0 where
+pub record HasMoreWaiting (old cs new : List ℕ) (before after : Seen) : Type 0 where
   pub gone : List ℕ
   pub parts : gone ++ new ≡ old ++ cs
   pub goes : Goes before after (world_after_put units.Typed gone before.world)
 
 -- what the adding of some characters does
 abbrev pub AddsAll : List ℕ → List ℕ → List ℕ → Seen → Seen → Sent → Type 0
-AddsAll old cs new before after sent.Done = HasMore old cs new before after
+AddsAll old cs new before after sent.Done = HasMoreWaiting old cs new before after
 AddsAll old cs new before after sent.Failed = Stops before after units.Typed old
 
 -- a bad pair's blank waits alone
@@ -38,7 +38,7 @@ pub record HasBlank (old : List ℕ) (panel : Panel) (new : List ℕ) (new_panel
 
 -- what the adding of a pair's character does, also to the panel
 abbrev pub AddsPair : Option ℕ → List ℕ → Panel → List ℕ → Panel → Seen → Seen → Sent → Type 0
-AddsPair (Some c) old panel new new_panel before after answer = Adds old c new before after answer × (new_panel ≡ panel)
+AddsPair (Some c) old panel new new_panel before after answer = AddsChar old c new before after answer × (new_panel ≡ panel)
 AddsPair None old panel new new_panel before after sent.Done = HasBlank old panel new new_panel before after
 AddsPair None old panel new new_panel before after sent.Failed =
     Stops before after units.Typed old × (new_panel ≡ panel)

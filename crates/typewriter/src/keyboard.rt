@@ -20,12 +20,12 @@ pub struct Keyboard {
 }
 
 impl Keyboard {
-    ghost use Rattle.typewriter.specs.Keys.{keys_left, NextLine, HoldsLine, AsksNeeded, Begins, TakesReading, lines_read, bad_keys, read_after};
+    ghost use Rattle.typewriter.specs.Keys.{keys_left, NextKeyLine, HoldsLine, AsksNeeded, IsNewKeyboard, TakesReading, lines_read, bad_keys, read_after};
 
     /// The keyboard before all lines that the unit Keys has left. It asks for none of them yet, and has read none.
     pub fn new() -> Keyboard
         ensures lines { (w : World) → keys_left result w ≡ unit_entries units.Keys w }
-        ensures begins { Begins result }
+        ensures begins { IsNewKeyboard result }
     {
         Keyboard {
             lines: Lines::new(Unit::Keys),
@@ -65,7 +65,7 @@ impl Keyboard {
     // Takes the next line, and counts it as read. The host is asked only while that line isn't held. That holds of all that was asked since
     // the keyboard was made: as long as only lines are read, Keys was asked for no more than the lines that were taken and the next one need.
     pub(crate) fn next_line<H: Host>(&mut self, host: &mut H) -> LineAnswer
-        ensures next { NextLine self.old self.new (H.seen host.old) (H.seen host.new) result }
+        ensures next { NextKeyLine self.old self.new (H.seen host.old) (H.seen host.new) result }
         ensures still { HoldsLine self.old → H.seen host.new ≡ H.seen host.old }
         ensures needed { AsksNeeded self.old (H.seen host.old) (H.seen host.new) }
         ensures reading { TakesReading self.old self.new (H.seen host.old) (H.seen host.new) result }

@@ -3,9 +3,9 @@ ghost use Rattle.std.specs.Prelude.{◌≡◌, ◌<◌, ◌≤◌, ◌+◌, ◌-
 ghost use Rattle.outside_io.specs.declared.host.Unit.TheVariants as units;
 ghost use Rattle.digit_core.specs.Size.{size};
 ghost use Rattle.read_checks.specs.Readings.{bad_from, with_bad};
-ghost use Rattle.typewriter.specs.KeyCalls.{Reads, ReadsAsSaid, stored_ending};
+ghost use Rattle.typewriter.specs.KeyCalls.{ReadsLineBy, ReadsLineAsSaid, line_stored_ending};
 ghost use Rattle.card_code.specs.Feed.{station};
-ghost use Rattle.typewriter.specs.Keys.{read_numeric, read_alphameric, HoldsLine, AsksNeeded, ReadsOn};
+ghost use Rattle.typewriter.specs.Keys.{read_line_numeric, read_line_alphameric, HoldsLine, AsksNeeded, GoesOnReadingLines};
 
 use crate::keyboard::Keyboard;
 use addr_indirect::Stop;
@@ -58,11 +58,11 @@ pub fn read_num<const M: u32, H: Host>(
     requires { p < size M }
     ensures reads { let before = station core.old panel.old keys.old (H.seen host.old) in
         let after = station core.new panel.new keys.new (H.seen host.new) in
-        Reads (read_numeric (size M) p) before after result }
+        ReadsLineBy (read_line_numeric (size M) p) before after result }
     ensures still { HoldsLine keys.old → H.seen host.new ≡ H.seen host.old }
     ensures needed { AsksNeeded keys.old (H.seen host.old) (H.seen host.new) }
-    ensures reads_on { ReadsOn keys.old keys.new (H.seen host.old) (H.seen host.new) }
-    ensures as_said { ReadsAsSaid ReadAs.Digit (size M - p) keys.old keys.new (H.seen host.old) (H.seen host.new) result }
+    ensures reads_on { GoesOnReadingLines keys.old keys.new (H.seen host.old) (H.seen host.new) }
+    ensures as_said { ReadsLineAsSaid ReadAs.Digit (size M - p) keys.old keys.new (H.seen host.old) (H.seen host.new) result }
 {
     match keys.next_line(host) {
         LineAnswer::Line(line) => {
@@ -97,11 +97,11 @@ pub fn read_alpha<const M: u32, H: Host>(
     requires odd { p % 2 ≡ 1 }
     ensures reads { let before = station core.old panel.old keys.old (H.seen host.old) in
         let after = station core.new panel.new keys.new (H.seen host.new) in
-        Reads (read_alphameric (size M) p) before after result }
+        ReadsLineBy (read_line_alphameric (size M) p) before after result }
     ensures still { HoldsLine keys.old → H.seen host.new ≡ H.seen host.old }
     ensures needed { AsksNeeded keys.old (H.seen host.old) (H.seen host.new) }
-    ensures reads_on { ReadsOn keys.old keys.new (H.seen host.old) (H.seen host.new) }
-    ensures as_said { ReadsAsSaid ReadAs.Pair ((size M - (p - 1)) / 2) keys.old keys.new (H.seen host.old) (H.seen host.new) result }
+    ensures reads_on { GoesOnReadingLines keys.old keys.new (H.seen host.old) (H.seen host.new) }
+    ensures as_said { ReadsLineAsSaid ReadAs.Pair ((size M - (p - 1)) / 2) keys.old keys.new (H.seen host.old) (H.seen host.new) result }
 {
     match keys.next_line(host) {
         LineAnswer::Line(line) => {
@@ -130,7 +130,7 @@ fn stored_ending(
     requires good { IfOk stored (λ _. panel.now.read_check ≡ false
         → bad_from units.Keys keys.old.read how 1 (take room text.now) ≡ []) }
     ensures tallied { keys.new ≡ record keys.old { bad = with_bad (bad_from units.Keys keys.old.read how 1 (take room text.now)) keys.old.bad } }
-    ensures answer { result ≡ stored_ending stored }
+    ensures answer { result ≡ line_stored_ending stored }
 {
     match stored {
         Ok(()) => {

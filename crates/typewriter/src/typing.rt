@@ -7,7 +7,7 @@ ghost use Rattle.traces.specs.Trace.{ends, does_all};
 ghost use Rattle.card_code.specs.TextOut.{pair_char};
 ghost use Rattle.typewriter.specs.Typing.{TypesTen, DumpsTen, write_numeric, write_alphameric, write_dump, control, is_control, Types, TypesPairs};
 ghost use Rattle.typewriter.specs.Tens.{ArePairs};
-ghost use Rattle.typewriter.specs.Line.{Adds, AddsAll, AddsPair};
+ghost use Rattle.typewriter.specs.Line.{AddsChar, AddsAll, AddsPair};
 
 use addr_indirect::{Stop, read_at};
 use arrayvec::ArrayVec;
@@ -227,7 +227,7 @@ fn add_ten<H: Host>(line: &mut ArrayVec<u8, LINE>, chars: &[u8; 10], host: &mut 
 
 // Adds a character to the line. Where the line is full it is typed before.
 fn add<H: Host>(line: &mut ArrayVec<u8, LINE>, c: u8, host: &mut H) -> Sent
-    ensures { Adds line.old.items c line.new.items (H.seen host.old) (H.seen host.new) result }
+    ensures { AddsChar line.old.items c line.new.items (H.seen host.old) (H.seen host.new) result }
 {
     if !line.is_full() {
         line.push(c);

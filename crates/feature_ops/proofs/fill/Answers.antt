@@ -4,7 +4,7 @@ use Rattle.digit_core.specs.Written.{core_with_word}
 use Rattle.digit_core.proofs.Writing.{length_written}
 use Rattle.feature_ops.proofs.Turns.{rest_done, rest_on, fill_next, fill_last}
 use Rattle.feature_ops.proofs.Words.{fills_first, fills_second, upper_good, lower_good}
-use Rattle.feature_ops.proofs.Sound.{fill_good}
+use Rattle.feature_ops.proofs.SoundTurns.{fill_good}
 use Rattle.feature_ops.proofs.fill.Goals as goal
 
 pub returns-then-first : goal.returns-then-first

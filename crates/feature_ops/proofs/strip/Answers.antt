@@ -2,7 +2,7 @@
 use Rattle.std.proofs.Common.{◌∙◌, ◌-◌, arith}
 use Rattle.digit_core.proofs.Writing.{length_written}
 use Rattle.feature_ops.proofs.Turns.{rest_done, rest_on, strip_next, strip_last}
-use Rattle.feature_ops.proofs.Sound.{strip_good}
+use Rattle.feature_ops.proofs.SoundTurns.{strip_good}
 use Rattle.feature_ops.proofs.strip.Goals as goal
 
 pub loop-turn-preserved : goal.loop-turn-preserved

@@ -1,6 +1,6 @@
 -- A field that ends within a word is moved by the cells of the word.
 use Rattle.std.proofs.Common.{◌+◌, ◌-◌, ◌∙◌, ap, refl, arith}
-use Rattle.digit_core.specs.Search.{is_bad}
+use Rattle.digit_core.specs.Search.{is_bad_cell}
 use Rattle.digit_core.proofs.Sixes.{six_of_high}
 use Rattle.field_moves.proofs.Wholes.{field_moved}
 use Rattle.field_moves.proofs.short_field.Goals as goal
@@ -19,4 +19,4 @@ put_field-requires g c =
     let ends = c.in-Some.ensures.is in
     let ten = ends.ten in
     let two = ends.two in
-    (omega arith, (omega arith, (ten, (omega arith, λ sound j below. ap is_bad (six_of_high c.ten-w.result (10 - c.in-Some.n) j) ∙ c.if-not-are_good_at.ensures.yes refl (10 - c.in-Some.n + j) (omega arith) (c.ones_from.ensures.named (10 - c.in-Some.n + j) (omega arith) (omega arith))))))
+    (omega arith, (omega arith, (ten, (omega arith, λ sound j below. ap is_bad_cell (six_of_high c.ten-w.result (10 - c.in-Some.n) j) ∙ c.if-not-are_good_at.ensures.yes refl (10 - c.in-Some.n + j) (omega arith) (c.ones_from.ensures.named (10 - c.in-Some.n + j) (omega arith) (omega arith))))))

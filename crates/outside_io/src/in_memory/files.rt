@@ -6,7 +6,7 @@ ghost use Rattle.outside_io.specs.declared.host.TheConstants.{ALL_SECTORS};
 
 use crate::Unit;
 use crate::host::{SECTOR_LENGTH, UNIT_COUNT};
-use crate::names::Names;
+use crate::names::BoundNames;
 use std::alloc::{AllocError, Global};
 
 // A file that a name stands for.
@@ -23,7 +23,7 @@ pub(crate) struct Files {
     alloc: Global,
     named: Vec<NamedFile>,
     bound: [bool; UNIT_COUNT],
-    names: Names,
+    names: BoundNames,
     opened: [usize; UNIT_COUNT],
     position: [usize; UNIT_COUNT],
     last: [usize; UNIT_COUNT],
@@ -32,7 +32,7 @@ pub(crate) struct Files {
 
 impl Files {
     ghost use Rattle.outside_io.specs.Names.{name_of, HasNoName};
-    ghost use Rattle.outside_io.specs.Files.{bytes_at, bytes_named, bytes_of, flag_of, rest_of, pack_of, Gives, Opens, IsIdle, IsUnasked, AddsFile, SameFiles};
+    ghost use Rattle.outside_io.specs.Files.{bytes_at, bytes_named, file_bytes, flag_of, rest_of, pack_of, Gives, Opens, IsIdle, IsUnasked, AddsFile, SameFiles};
 
     // No file, and no unit in use.
     pub(crate) fn new(alloc: Global) -> Self
@@ -45,7 +45,7 @@ impl Files {
             alloc,
             named: Vec::new(alloc),
             bound: [false; UNIT_COUNT],
-            names: Names::new(),
+            names: BoundNames::new(),
             opened: [0; UNIT_COUNT],
             position: [0; UNIT_COUNT],
             last: [0; UNIT_COUNT],
@@ -58,7 +58,7 @@ impl Files {
         requires { IsIdle self.old }
         ensures ok { OnOk result (AddsFile self.old self.new name.now bytes.now) }
         ensures err { OnErr result (SameFiles self.old self.new) }
-        ensures grew { OnErr result (bytes_of self.old name.now ≢ bytes.now) }
+        ensures grew { OnErr result (file_bytes self.old name.now ≢ bytes.now) }
         ensures flags { flag_of self.new ≡ flag_of self.old }
     {
         if self.bytes(name) == bytes {
@@ -84,7 +84,7 @@ impl Files {
 
     // The bytes that the name stands for, none where no file has it.
     fn bytes(&self, name: &str) -> &[u8]
-        ensures { result.now ≡ bytes_of self.now name.now }
+        ensures { result.now ≡ file_bytes self.now name.now }
     {
         let place = self.find(name);
         if place < self.named.len() {

@@ -8,7 +8,7 @@ ghost use Rattle.outside_io.specs.declared.host.TheConstants.{ALL_SECTORS};
 use crate::host::SECTOR_LENGTH;
 use crate::in_memory::files::Files;
 use crate::in_memory::pack::Sectors;
-use crate::in_memory::texts::Texts;
+use crate::in_memory::texts::OutputTexts;
 use crate::{Bound, Drive, Host, Put, Take, Unit, host};
 use std::alloc::{AllocError, Global};
 
@@ -61,7 +61,7 @@ impl Calls {
 #[derive(Drop)]
 pub struct MemHost {
     files: Files,
-    texts: Texts,
+    texts: OutputTexts,
     sectors: Sectors,
     calls: Calls,
 }
@@ -82,7 +82,7 @@ impl MemHost {
     {
         Ok(MemHost {
             files: Files::new(alloc),
-            texts: Texts::new(alloc, room)?,
+            texts: OutputTexts::new(alloc, room)?,
             sectors: Sectors::new(alloc)?,
             calls: Calls {
                 failing: Vec::new(alloc),

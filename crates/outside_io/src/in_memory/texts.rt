@@ -8,20 +8,20 @@ use std::alloc::{AllocError, Global};
 
 // A text that never grows past its room.
 #[derive(Drop)]
-pub(crate) struct Output {
+pub(crate) struct OutputText {
     room: usize,
     text: Vec<u8>,
     ghost roomy: { room ≤ vec_capacity text },
     ghost within: { length text.items ≤ room },
 }
 
-impl Output {
+impl OutputText {
     // An empty text with so much room.
     fn new(alloc: Global, room: usize) -> Result<Self, AllocError>
         ensures { IfOk result (λ output. (output.text.items ≡ []) × (output.room ≡ room)) }
     {
         let text = Vec::with_capacity(alloc, room)?;
-        Ok(Output { room, text })
+        Ok(OutputText { room, text })
     }
 
     // Empties the text.
@@ -50,12 +50,12 @@ impl Output {
 
 // A text for each unit, in the order of the units.
 #[derive(Drop)]
-pub(crate) struct Texts {
-    outputs: Vec<Output>,
+pub(crate) struct OutputTexts {
+    outputs: Vec<OutputText>,
     ghost units: { length outputs.items ≡ UNIT_COUNT },
 }
 
-impl Texts {
+impl OutputTexts {
     ghost use Rattle.outside_io.specs.Texts.{unit_text, room_of, Clears, Grows, AreEmpty};
 
     // Empty texts, with room for the outputs alone.
@@ -64,9 +64,9 @@ impl Texts {
     {
         let mut outputs = Vec::new(alloc);
         for unit in Unit::ALL {
-            outputs.push(Output::new(alloc, unit_room(room, unit))?)?;
+            outputs.push(OutputText::new(alloc, unit_room(room, unit))?)?;
         }
-        Ok(Texts { outputs })
+        Ok(OutputTexts { outputs })
     }
 
     // The unit's text.

@@ -2,7 +2,7 @@
 use Rattle.std.proofs.Common.{◌≡◌, ℕ, ◌*◌, List, ◌∷◌, length, take, sym, ◌∙◌, ap, arith}
 use Rattle.circular_buffer.specs.Buffer.{Buffer}
 use Rattle.digit_core.specs.{core_mixture}
-use Rattle.digit_core.proofs.Mixed.{mixed_all, mixed_back}
+use Rattle.digit_core.proofs.TakenCells.{mixed_all, mixed_back}
 use Rattle.rewind_log.specs.declared.LogEntry.{LogEntry}
 use Rattle.rewind_log.specs.Entries.{core_before, places_of_entries}
 use Rattle.rewind_log.proofs.Places.{place_kept}

@@ -2,7 +2,7 @@
 use Rattle.std.proofs.Common.{sym, not}
 use Rattle.std.proofs.lemmas.Result.{err_from_is_err_and}
 use Rattle.branch_ops.proofs.RowLemmas.{stops}
-use Rattle.branch_ops.proofs.Known.{digit_goes}
+use Rattle.branch_ops.proofs.KnownOperands.{digit_goes}
 use Rattle.branch_ops.proofs.rows.bnf.Goals as goal
 
 -- the reading stops

@@ -1,5 +1,5 @@
 -- What a branch does over its operands is what it does.
-use Rattle.branch_ops.proofs.Known.{goes_to}
+use Rattle.branch_ops.proofs.KnownOperands.{goes_to}
 use Rattle.branch_ops.proofs.rows.branch_known.Goals as goal
 
 pub returns-in-Bt-clause-row : goal.returns-in-Bt-clause-row

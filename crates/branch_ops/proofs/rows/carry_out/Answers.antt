@@ -2,7 +2,7 @@
 use Rattle.std.proofs.Common.{refl, sym}
 use Rattle.instruction_table.specs.declared.MayStore.TheVariants.{Anywhere}
 use Rattle.branch_ops.specs.Branch.{branch}
-use Rattle.branch_ops.proofs.Known.{only_stops}
+use Rattle.branch_ops.proofs.KnownOperands.{only_stops}
 use Rattle.branch_ops.proofs.rows.carry_out.Goals as goal
 
 pub returns-in-Err-clause-row : goal.returns-in-Err-clause-row

@@ -5,7 +5,7 @@ use Rattle.clap.specs.Words.{App, Row as Found, Text, found_of, is_simple, rows_
 use Rattle.line_words.specs.Rows.{value_by_name}
 use Rattle.command_line.specs.declared.words.Command.{Command}
 use Rattle.command_line.specs.Words.{commands}
-use Rattle.command_line.specs.Reading.{reading}
+use Rattle.command_line.specs.Reading.{reading_of_command}
 use Rattle.command_line.specs.Matched.{meaning_found, values_found}
 use Rattle.command_line.proofs.Found.{found_both, nothing_met}
 use Rattle.command_line.proofs.Alone.{first_serves}
@@ -33,4 +33,4 @@ returns c =
     let named = found_both _ (out-ArgMatches c.in-Ok.matches).subcommand name rows c.in-Some-subcommand.ensures.name c.in-Some-subcommand.ensures.rows in
     let found = (c.in-Ok.ensures.matches (ap is_simple c.in_ok-program.ensures ∙ serves.2)).1 ∙ ap (λ (a : App). subcommand_of a words) c.in_ok-program.ensures ∙ serves.0 in
     let same = ap (option_and_then (value_by_name commands)) (ap (option_map (λ (p : Text × List Found). p.0)) (sym named ∙ found) ∙ serves.3) in
-    c.read.ensures ∙ ap (reading c.in-Some.command) c.values_found.ensures ∙ ap (λ (o : Option Command). option_and_then (λ command. reading command (values_found rows)) o) (c.in-Some.ensures ∙ sym same) ∙ ap meaning_found (sym named ∙ found)
+    c.read.ensures ∙ ap (reading_of_command c.in-Some.command) c.values_found.ensures ∙ ap (λ (o : Option Command). option_and_then (λ command. reading_of_command command (values_found rows)) o) (c.in-Some.ensures ∙ sym same) ∙ ap meaning_found (sym named ∙ found)

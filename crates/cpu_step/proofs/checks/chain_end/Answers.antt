@@ -1,6 +1,6 @@
 -- The ways out of the chain, and the way on.
 use Rattle.std.proofs.Common.{sym, ◌∙◌, arith}
-use Rattle.cpu_step.proofs.Checked.{chain_on, chain_stays, chain_over}
+use Rattle.cpu_step.proofs.CheckParts.{chain_on, chain_stays, chain_over}
 use Rattle.cpu_step.proofs.checks.chain_end.Goals as goal
 
 -- a further field

@@ -1,6 +1,6 @@
 -- A cell that can't be read, and one that can.
 use Rattle.std.proofs.Common.{sym, ◌∙◌, arith}
-use Rattle.cpu_step.proofs.Checked.{unread_past, unread_here, unread_on, unread_over}
+use Rattle.cpu_step.proofs.CheckParts.{unread_past, unread_here, unread_on, unread_over}
 use Rattle.cpu_step.proofs.checks.first_unread.Goals as goal
 
 pub returns-then-a-size : goal.returns-then-a-size

@@ -1,6 +1,6 @@
 -- A digit over 9, one that isn't, and the end of the digits.
 use Rattle.std.proofs.Common.{sym, ◌∙◌, arith}
-use Rattle.cpu_step.proofs.Checked.{down_found, down_on, down_over}
+use Rattle.cpu_step.proofs.CheckParts.{down_found, down_on, down_over}
 use Rattle.cpu_step.proofs.checks.over_nine_down.Goals as goal
 
 pub returns-then-is_over_nine : goal.returns-then-is_over_nine

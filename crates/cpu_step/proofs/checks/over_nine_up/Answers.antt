@@ -1,6 +1,6 @@
 -- A digit over 9, one that isn't, and the end of the digits.
 use Rattle.std.proofs.Common.{sym, ◌∙◌}
-use Rattle.cpu_step.proofs.Checked.{up_found, up_on, up_over}
+use Rattle.cpu_step.proofs.CheckParts.{up_found, up_on, up_over}
 use Rattle.cpu_step.proofs.checks.over_nine_up.Goals as goal
 
 pub returns-then-is_over_nine : goal.returns-then-is_over_nine

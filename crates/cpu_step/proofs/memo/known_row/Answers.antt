@@ -1,7 +1,7 @@
 -- Fields without a chain that come to operands here do everywhere.
 use Rattle.std.proofs.Common.{sym, ◌∙◌, arith}
 use Rattle.digit_core.specs.Size.{size}
-use Rattle.cpu_step.proofs.Settled.{settled, row_no_immediate, same_first}
+use Rattle.cpu_step.proofs.UnchainedFields.{settled, row_no_immediate, same_first}
 use Rattle.cpu_step.proofs.memo.known_row.Goals as goal
 
 -- no branch

@@ -1,5 +1,5 @@
 -- The mask has all bits of the cells below number j.
-use Rattle.cpu_step.proofs.Placed.{up_to_named, up_to_others}
+use Rattle.cpu_step.proofs.MemoEntries.{up_to_named, up_to_others}
 use Rattle.cpu_step.proofs.memo.mask_below.Goals as goal
 
 pub returns-clause-named : goal.returns-clause-named

@@ -1,5 +1,5 @@
 -- The mask has all bits of the cells from number j on.
-use Rattle.cpu_step.proofs.Placed.{from_named, from_others}
+use Rattle.cpu_step.proofs.MemoEntries.{from_named, from_others}
 use Rattle.cpu_step.proofs.memo.mask_from.Goals as goal
 
 pub returns-clause-named : goal.returns-clause-named

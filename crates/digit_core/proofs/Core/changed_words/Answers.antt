@@ -2,7 +2,7 @@
 use Rattle.std.proofs.Common.{◌≡◌, inl, inr, length, sym, ◌∙◌, arith}
 use Rattle.std.proofs.lemmas.List.{get_or_past}
 use Rattle.std.proofs.lemmas.Bool.{cases_lt}
-use Rattle.digit_core.proofs.Mixed.{same_cells}
+use Rattle.digit_core.proofs.TakenCells.{same_cells}
 use Rattle.digit_core.proofs.Core.changed_words.Goals as goal
 
 pub returns-clause-outside : goal.returns-clause-outside

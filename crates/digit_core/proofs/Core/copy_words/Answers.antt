@@ -2,7 +2,7 @@
 use Rattle.std.proofs.Common.{◌∙◌, ◌*◌, true≢false, sym, arith}
 use Rattle.digit_core.specs.Packed.{cells_of}
 use Rattle.digit_core.proofs.Sixes.{length_cells}
-use Rattle.digit_core.proofs.Sound.{mixed_sound, repacked}
+use Rattle.digit_core.proofs.SoundCore.{mixed_sound, repacked}
 use Rattle.digit_core.proofs.Core.copy_words.Goals.{then-self, else-self}
 use Rattle.digit_core.specs.declared.standard_tables.AddTable.TheVariants.{Unseen}
 use Rattle.digit_core.proofs.AddTable.{none_known}

@@ -2,7 +2,7 @@ use Rattle.std.proofs.Common.{◌≡◌, ◌+◌, ◌*◌, ◌/◌, ◌%◌, ◌
 use Rattle.digit_core.specs.Packed.{cells_of}
 use Rattle.digit_core.proofs.Moving.{all_taken}
 use Rattle.digit_core.proofs.Sixes.{length_cells}
-use Rattle.digit_core.proofs.Sound.{copied_sound, repacked}
+use Rattle.digit_core.proofs.SoundCore.{copied_sound, repacked}
 use Rattle.digit_core.specs.declared.standard_tables.AddTable.TheVariants.{Unseen}
 use Rattle.digit_core.proofs.AddTable.{none_known}
 use Rattle.digit_core.proofs.Core.copy_words_down.Goals as goal

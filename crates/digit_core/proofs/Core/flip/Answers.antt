@@ -2,7 +2,7 @@
 use Rattle.std.proofs.Common.{true≢false, false, sym, arith}
 use Rattle.digit_core.specs.Packed.{cells_of}
 use Rattle.digit_core.proofs.AddTable.{none_known}
-use Rattle.digit_core.proofs.Sound.{repacked}
+use Rattle.digit_core.proofs.SoundCore.{repacked}
 use Rattle.digit_core.specs.declared.standard_tables.AddTable.TheVariants.{Unseen}
 use Rattle.digit_core.proofs.Core.flip.Goals as goal
 

@@ -3,7 +3,7 @@ use Rattle.std.proofs.Common.{◌∙◌, ◌+◌, ◌*◌, ap, arith}
 use Rattle.digit_core.specs.Packed.{cells_of}
 use Rattle.digit_core.proofs.Moving.{all_taken}
 use Rattle.digit_core.specs.declared.standard_tables.AddTable.TheVariants.{Unseen}
-use Rattle.digit_core.proofs.Sound.{repacked, written_sound}
+use Rattle.digit_core.proofs.SoundCore.{repacked, written_sound}
 use Rattle.digit_core.proofs.AddTable.{none_known}
 use Rattle.digit_core.proofs.Core.put_ten_digits_of.Goals as goal
 

@@ -2,7 +2,7 @@
 use Rattle.std.proofs.Common.{◌≡◌, ◌*◌, ◌^◌, ◌<◌, length, get_or, ◌∙◌, sym, arith, refl, length-set}
 use Rattle.std.proofs.lemmas.List.Elements.{All-get_or, All-set}
 use Rattle.digit_core.specs.Packed.{cells_of}
-use Rattle.digit_core.proofs.Mixed.{mixed_none, mixed_word}
+use Rattle.digit_core.proofs.TakenCells.{mixed_none, mixed_word}
 use Rattle.digit_core.proofs.mixing.copy_between.Goals as goal
 
 pub loop-k-init : goal.loop-k-init

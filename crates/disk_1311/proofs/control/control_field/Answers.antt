@@ -26,8 +26,8 @@ pub returns-then-control-drives-clause-is : goal.returns-then-control-drives-cla
 returns-then-control-drives-clause-is g c =
     let all = field_all c.args.core.now c.args.at c.loop-k.k c.loop-k.digits c.loop-k-test.false c.loop-k.invariant.all in
     let reads = field_reads c.args.core.now c.args.at c.args.drives c.loop-k.digits (sym c.loop-k.invariant.rest ∙ all) in
-    rw (c.number_of.ensures, c.number_of-2.ensures, c.number_of-3.ensures, c.number_of-4.ensures)
-    (drive_there c.args.drives (control_of c.loop-k.digits) (omega (arith, c.number_of.ensures)) (omega (arith, c.number_of.ensures)) ∙ sym reads)
+    rw (c.number_of_digits.ensures, c.number_of_digits-2.ensures, c.number_of_digits-3.ensures, c.number_of_digits-4.ensures)
+    (drive_there c.args.drives (control_of c.loop-k.digits) (omega (arith, c.number_of_digits.ensures)) (omega (arith, c.number_of_digits.ensures)) ∙ sym reads)
 
 pub returns-then-control-drives-clause-sector : goal.returns-then-control-drives-clause-sector
 returns-then-control-drives-clause-sector g c = omega (arith, part_below 5 1 c.loop-k.digits (omega (arith, c.loop-k.invariant.all)) c.loop-k.invariant.decimal)
@@ -44,6 +44,6 @@ returns-else-control-ge1-clause-is g c =
     let reads = field_reads c.args.core.now c.args.at c.args.drives c.loop-k.digits (sym c.loop-k.invariant.rest ∙ all) in
     no_drive c.args.drives (control_of c.loop-k.digits)
     (elim c.else-control-ge1.branch [
-      | else-control-ge1-via-then-control-ge1+else-control-drives w ↦ inr (omega (arith, c.number_of.ensures))
-      | else-control-ge1-via-else-control-ge1 w ↦ inl (omega (arith, c.number_of.ensures))
+      | else-control-ge1-via-then-control-ge1+else-control-drives w ↦ inr (omega (arith, c.number_of_digits.ensures))
+      | else-control-ge1-via-else-control-ge1 w ↦ inl (omega (arith, c.number_of_digits.ensures))
     ]) ∙ sym reads

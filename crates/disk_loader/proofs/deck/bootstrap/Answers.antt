@@ -2,9 +2,9 @@ use Rattle.std.proofs.Common.{List, ℕ, map, sym, ap, ◌∙◌, ◌++◌, ◌�
 use Rattle.std.proofs.lemmas.List.{map-append}
 use Rattle.card_columns.specs.Types.{card_bytes}
 use Rattle.deck_punch.specs.Cards.{transfer_card}
-use Rattle.disk_loader.proofs.Punched.{going_first, going_not, going_other, going_more, going_end, deck_if_loads, deck_most}
+use Rattle.disk_loader.proofs.BootCards.{going_first, going_not, going_other, going_more, going_end, deck_if_loads, deck_most}
 use Rattle.disk_loader.proofs.deck.bootstrap.Goals as goal
-use Rattle.disk_loader.proofs.deck.bootstrap.Goals.{then-not-is_needed+in_ok-close, else-not-is_needed+then-goes_on, else-not-is_needed+else-goes_on+in_ok-close-2}
+use Rattle.disk_loader.proofs.deck.bootstrap.Goals.{then-not-is_needed+in_ok-close, else-not-is_needed+then-extends_stretch, else-not-is_needed+else-extends_stretch+in_ok-close-2}
 
 pub loop-h-init : goal.loop-h-init
 loop-h-init c = rw c.new-cards.ensures.items (going_first c.args.assembled.now.image.pieces)
@@ -19,12 +19,12 @@ loop-h-preserved c =
       | then-not-is_needed+in_ok-close w ↦
           let need = sym c.is_needed.ensures ∙ w.if-not-is_needed.true in
           rw (w.cards-is, w.open-is, w.in_ok-close.ensures) (going_not image h texts c.loop-h.open c.loop-h.invariant more need)
-      | else-not-is_needed+then-goes_on w ↦
+      | else-not-is_needed+then-extends_stretch w ↦
           let need = sym c.is_needed.ensures ∙ w.if-not-is_needed.false in
-          rw (w.cards-is, w.open-is) (going_more image h texts c.loop-h.open c.loop-h.invariant more need (sym w.goes_on.ensures ∙ w.if-goes_on.true))
-      | else-not-is_needed+else-goes_on+in_ok-close-2 w ↦
+          rw (w.cards-is, w.open-is) (going_more image h texts c.loop-h.open c.loop-h.invariant more need (sym w.extends_stretch.ensures ∙ w.if-extends_stretch.true))
+      | else-not-is_needed+else-extends_stretch+in_ok-close-2 w ↦
           let need = sym c.is_needed.ensures ∙ w.if-not-is_needed.false in
-          rw (w.cards-is, w.open-is, w.in_ok-close-2.ensures) (going_other image h texts c.loop-h.open c.loop-h.invariant more need (sym w.goes_on.ensures ∙ w.if-goes_on.false))
+          rw (w.cards-is, w.open-is, w.in_ok-close-2.ensures) (going_other image h texts c.loop-h.open c.loop-h.invariant more need (sym w.extends_stretch.ensures ∙ w.if-extends_stretch.false))
     ]
 
 pub returns-clause-is : goal.returns-clause-is

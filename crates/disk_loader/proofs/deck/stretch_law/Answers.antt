@@ -1,4 +1,4 @@
-use Rattle.disk_loader.proofs.Needed.{covers}
+use Rattle.disk_loader.proofs.StretchHundreds.{covers}
 use Rattle.disk_loader.proofs.deck.stretch_law.Goals as goal
 
 pub returns : goal.returns

@@ -1,6 +1,6 @@
 use Rattle.std.proofs.Common.{ℕ, ◌≤◌, length, sym, ◌∙◌, arith, rules}
 use Rattle.disk_loader.specs.Writes.{image_sectors}
-use Rattle.disk_loader.proofs.Written.{counted_first, counted_needed, counted_not, counted_all}
+use Rattle.disk_loader.proofs.WrittenSectors.{counted_first, counted_needed, counted_not, counted_all}
 use Rattle.disk_loader.proofs.writing.sector_count.Goals as goal
 use Rattle.disk_loader.proofs.writing.sector_count.Goals.{then-is_needed, else-is_needed}
 

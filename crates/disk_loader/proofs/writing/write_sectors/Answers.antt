@@ -1,6 +1,6 @@
 use Rattle.std.proofs.Common.{sym, rules}
 use Rattle.disk_loader.proofs.Texts.{in_some, in_none}
-use Rattle.disk_loader.proofs.Written.{so_far_first, so_far_on, so_far_not, so_far_all, so_far_failed}
+use Rattle.disk_loader.proofs.WrittenSectors.{so_far_first, so_far_on, so_far_not, so_far_all, so_far_failed}
 use Rattle.disk_loader.proofs.writing.write_sectors.Goals as goal
 use Rattle.disk_loader.proofs.writing.write_sectors.Goals.{in-None, in-Some+in-Done}
 

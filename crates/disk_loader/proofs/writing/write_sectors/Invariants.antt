@@ -1,4 +1,4 @@
-use Rattle.disk_loader.proofs.Written.{SoFar}
+use Rattle.disk_loader.proofs.WrittenSectors.{SoFar}
 use Rattle.disk_loader.proofs.writing.write_sectors.Given as goal
 
 abbrev pub invariant-loop-h : goal.invariant-loop-h

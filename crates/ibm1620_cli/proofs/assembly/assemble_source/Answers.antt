@@ -4,7 +4,7 @@ use Rattle.ibm1620_cli.proofs.Sources.{promise_sound, ends_at_source, ended_stay
 use Rattle.ibm1620_cli.proofs.Makings.{written_follows}
 use Rattle.outside_io.specs.declared.host.Unit.TheVariants as units
 use Rattle.ibm1620_cli.specs.Inputs.{reads_source}
-use Rattle.ibm1620_cli.proofs.Kept.{stays_on}
+use Rattle.ibm1620_cli.proofs.KeptPromises.{stays_on}
 use Rattle.ibm1620_cli.proofs.Readings.{takes_stays}
 use Rattle.ibm1620_cli.proofs.assembly.assemble_source.Goals as goal
 

@@ -11,10 +11,10 @@ use Rattle.ibm1620_cli.specs.Source.{program_of, made_of, made_events}
 use Rattle.ibm1620_cli.specs.Parts.{HoldsSession}
 use Rattle.ibm1620_cli.proofs.TakenInputs.{goes_unasked}
 use Rattle.ibm1620_cli.proofs.Makings.{makings_of}
-use Rattle.ibm1620_cli.proofs.Debugged.{promise_holds, promise_debug_behind, promise_debug_unwritten}
+use Rattle.ibm1620_cli.proofs.SessionPromises.{promise_holds, promise_debug_behind, promise_debug_unwritten}
 use Rattle.ibm1620_cli.specs.Inputs.{reads_feed}
-use Rattle.ibm1620_cli.proofs.Kept.{stays_again, stays_none}
-use Rattle.ibm1620_cli.proofs.Executed.{session_stays}
+use Rattle.ibm1620_cli.proofs.KeptPromises.{stays_again, stays_none}
+use Rattle.ibm1620_cli.proofs.DeckPromises.{session_stays}
 use Rattle.ibm1620_cli.proofs.debug.debug_assembled.Goals as goal
 
 pub returns-in-Ok-clause-promise : goal.returns-in-Ok-clause-promise

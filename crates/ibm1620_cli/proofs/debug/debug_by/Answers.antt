@@ -4,7 +4,7 @@ use Rattle.ibm1620_cli.specs.Source.{events_at, running_promise}
 use Rattle.ibm1620_cli.specs.DebugJob.{debugged_promise}
 use Rattle.ibm1620_cli.proofs.Sources.{promise_sound, ends_at_source, ended_then}
 use Rattle.ibm1620_cli.proofs.Running.{promise_ran, running_follows}
-use Rattle.ibm1620_cli.proofs.Debugged.{debugged_follows}
+use Rattle.ibm1620_cli.proofs.SessionPromises.{debugged_follows}
 use Rattle.std.proofs.Common.{refl}
 use Rattle.outside_io.specs.declared.host.Unit.TheVariants as units
 use Rattle.ibm1620_cli.specs.Inputs.{reads_feed}

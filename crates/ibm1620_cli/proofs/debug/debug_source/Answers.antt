@@ -8,7 +8,7 @@ use Rattle.ibm1620_cli.specs.LoadJob.{script_read}
 use Rattle.ibm1620_cli.specs.DebugJob.{lines_promise}
 use Rattle.ibm1620_cli.specs.Promise.{answer_of, world_with_texts}
 use Rattle.ibm1620_cli.proofs.Readings.{promise_unread, keeps_read, tells_script, script_alone, read_then, unread_then}
-use Rattle.ibm1620_cli.proofs.Debugged.{script_apart}
+use Rattle.ibm1620_cli.proofs.SessionPromises.{script_apart}
 use Rattle.outside_io.specs.declared.host.Unit.TheVariants as units
 use Rattle.ibm1620_cli.specs.Inputs.{reads_session}
 use Rattle.ibm1620_cli.proofs.debug.debug_source.Goals as goal

@@ -8,7 +8,7 @@ use Rattle.ibm1620_cli.specs.Source.{events_at}
 use Rattle.ibm1620_cli.specs.DebugJob.{commands_read, commands_promise}
 use Rattle.ibm1620_cli.specs.Promise.{answer_of, world_with_texts}
 use Rattle.ibm1620_cli.proofs.Readings.{promise_unread, keeps_read, tells_commands, commands_alone, read_then, unread_then}
-use Rattle.ibm1620_cli.proofs.Debugged.{commands_apart}
+use Rattle.ibm1620_cli.proofs.SessionPromises.{commands_apart}
 use Rattle.outside_io.specs.declared.host.Unit.TheVariants as units
 use Rattle.ibm1620_cli.specs.Inputs.{reads_program}
 use Rattle.ibm1620_cli.proofs.debug.debug_under.Goals as goal

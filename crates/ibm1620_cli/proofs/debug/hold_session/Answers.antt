@@ -1,10 +1,10 @@
 use Rattle.std.proofs.Common.{refl, ap, arith}
-use Rattle.cpu_step.proofs.Exact.{load_sound}
+use Rattle.cpu_step.proofs.ExactCards.{load_sound}
 use Rattle.ibm1620_cli.specs.declared.status.Status.TheVariants.{HostFault, SessionEnded}
 use Rattle.ibm1620_cli.specs.declared.answer.Answer.{Answer}
 use Rattle.ibm1620_cli.specs.Report.{report_line}
 use Rattle.ibm1620_cli.specs.Parts.{lacks_memory, breaks_key, breaks_session, ends_session}
-use Rattle.ibm1620_cli.proofs.Executed.{shows_console, reports_console}
+use Rattle.ibm1620_cli.proofs.DeckPromises.{shows_console, reports_console}
 use Rattle.ibm1620_cli.proofs.debug.hold_session.Goals as goal
 
 pub returns-in-Err : goal.returns-in-Err

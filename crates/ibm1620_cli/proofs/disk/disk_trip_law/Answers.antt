@@ -1,4 +1,4 @@
-use Rattle.ibm1620_cli.proofs.Tripped.{disk_trip}
+use Rattle.ibm1620_cli.proofs.RoundTripRuns.{disk_trip}
 use Rattle.ibm1620_cli.proofs.disk.disk_trip_law.Goals as goal
 
 pub returns : goal.returns

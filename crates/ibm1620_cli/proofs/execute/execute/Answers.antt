@@ -1,10 +1,10 @@
 use Rattle.std.proofs.Common.{refl, ap}
-use Rattle.cpu_step.proofs.Exact.{load_sound}
+use Rattle.cpu_step.proofs.ExactCards.{load_sound}
 use Rattle.operator_script.specs.Run.{run_state}
 use Rattle.ibm1620_cli.specs.declared.status.Status.TheVariants.{HostFault}
 use Rattle.ibm1620_cli.specs.declared.answer.Answer.{Answer}
 use Rattle.ibm1620_cli.specs.Parts.{lacks_memory, breaks_key, breaks_steps, takes_turns}
-use Rattle.ibm1620_cli.proofs.Executed.{shows_console, runs_out, broke_off}
+use Rattle.ibm1620_cli.proofs.DeckPromises.{shows_console, runs_out, broke_off}
 use Rattle.ibm1620_cli.proofs.execute.execute.Goals as goal
 
 pub returns-in-Err : goal.returns-in-Err

@@ -2,7 +2,7 @@ use Rattle.std.proofs.Common.{subst}
 use Rattle.ibm1620_cli.specs.Report.{report_line}
 use Rattle.ibm1620_cli.specs.Turns.{status_of}
 use Rattle.ibm1620_cli.specs.Parts.{Reports}
-use Rattle.ibm1620_cli.proofs.Executed.{shows_console, reports_console}
+use Rattle.ibm1620_cli.proofs.DeckPromises.{shows_console, reports_console}
 use Rattle.ibm1620_cli.proofs.execute.take_turns.Goals as goal
 
 pub returns : goal.returns

@@ -1,5 +1,5 @@
-use Rattle.ibm1620_cli.proofs.Executed.{executes_stays}
-use Rattle.ibm1620_cli.proofs.Loaded.{promise_load}
+use Rattle.ibm1620_cli.proofs.DeckPromises.{executes_stays}
+use Rattle.ibm1620_cli.proofs.LoadedMachines.{promise_load}
 use Rattle.ibm1620_cli.proofs.load.load_deck.Goals as goal
 
 pub returns : goal.returns

@@ -5,7 +5,7 @@ use Rattle.outside_io.specs.Whole.{Stops}
 use Rattle.ibm1620_cli.proofs.Generating.{making_lacks, making_stops, making_reports}
 use Rattle.outside_io.specs.declared.host.Unit.TheVariants as units
 use Rattle.ibm1620_cli.specs.Inputs.{reads_nothing}
-use Rattle.ibm1620_cli.proofs.Kept.{added_stays, report_stays, stays_on, stays_same}
+use Rattle.ibm1620_cli.proofs.KeptPromises.{added_stays, report_stays, stays_on, stays_same}
 use Rattle.ibm1620_cli.proofs.making.make_source.Goals as goal
 
 pub returns-in-Err-clause-promise : goal.returns-in-Err-clause-promise

@@ -1,4 +1,4 @@
-use Rattle.ibm1620_cli.proofs.Prompted.{prompt}
+use Rattle.ibm1620_cli.proofs.PromptOrder.{prompt}
 use Rattle.ibm1620_cli.proofs.program.prompt_law.Goals as goal
 
 pub returns : goal.returns

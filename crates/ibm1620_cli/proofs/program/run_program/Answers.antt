@@ -1,6 +1,6 @@
 use Rattle.std.proofs.Common.{◌∙◌, ap}
 use Rattle.loader_cards.specs.ObjectDeck.{steps_in}
-use Rattle.ibm1620_cli.proofs.Executed.{executes_stays, executes_later, executes_unrefused, executes_unstated}
+use Rattle.ibm1620_cli.proofs.DeckPromises.{executes_stays, executes_later, executes_unrefused, executes_unstated}
 use Rattle.ibm1620_cli.proofs.Programs.{keeps_program_promise}
 use Rattle.ibm1620_cli.proofs.program.run_program.Goals as goal
 

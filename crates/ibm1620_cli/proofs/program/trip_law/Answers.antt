@@ -1,4 +1,4 @@
-use Rattle.ibm1620_cli.proofs.Tripped.{trip}
+use Rattle.ibm1620_cli.proofs.RoundTripRuns.{trip}
 use Rattle.ibm1620_cli.proofs.program.trip_law.Goals as goal
 
 pub returns : goal.returns

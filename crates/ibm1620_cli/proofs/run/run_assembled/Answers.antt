@@ -4,7 +4,7 @@ use Rattle.ibm1620_cli.specs.Source.{program_of}
 use Rattle.ibm1620_cli.proofs.Headlines.{fits_of}
 use Rattle.ibm1620_cli.proofs.Runs.{promise_run_behind, promise_run_unwritten}
 use Rattle.ibm1620_cli.specs.Inputs.{reads_feed}
-use Rattle.ibm1620_cli.proofs.Kept.{stays_again, stays_none}
+use Rattle.ibm1620_cli.proofs.KeptPromises.{stays_again, stays_none}
 use Rattle.ibm1620_cli.proofs.run.run_assembled.Goals as goal
 
 pub returns-in-Ok-clause-promise : goal.returns-in-Ok-clause-promise

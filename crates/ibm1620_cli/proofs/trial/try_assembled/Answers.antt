@@ -9,7 +9,7 @@ use Rattle.ibm1620_cli.specs.Source.{program_of, card_count}
 use Rattle.ibm1620_cli.specs.RunJob.{turned_promise}
 use Rattle.ibm1620_cli.specs.TrialJob.{trial_settings, steps_of, tried_promise}
 use Rattle.ibm1620_cli.specs.Inputs.{reads_feed}
-use Rattle.ibm1620_cli.proofs.Kept.{promise_memory, stays_on, stays_again, stays_none, stays_same}
+use Rattle.ibm1620_cli.proofs.KeptPromises.{promise_memory, stays_on, stays_again, stays_none, stays_same}
 use Rattle.ibm1620_cli.proofs.Headlines.{fits_of}
 use Rattle.ibm1620_cli.proofs.Runs.{promise_run_behind}
 use Rattle.ibm1620_cli.proofs.Trials.{trial_stays, promise_untried, promise_tried}

@@ -5,11 +5,11 @@ use Rattle.sps_pass_two.specs.Broken.{refusal_of}
 use Rattle.ibm1620_cli.specs.Promise.{KeepsPromise}
 use Rattle.ibm1620_cli.specs.Source.{running_promise}
 use Rattle.ibm1620_cli.specs.TrialJob.{tried_promise}
-use Rattle.ibm1620_cli.specs.Parts.{RefusesSource, Stays}
+use Rattle.ibm1620_cli.specs.Parts.{RefusesSource, LeavesUnread}
 use Rattle.ibm1620_cli.proofs.Running.{promise_ran}
 use Rattle.ibm1620_cli.proofs.Trials.{trial_lacks, trial_refused, trial_unbroken}
 use Rattle.ibm1620_cli.specs.Inputs.{reads_feed}
-use Rattle.ibm1620_cli.proofs.Kept.{stays_none, stays_same}
+use Rattle.ibm1620_cli.proofs.KeptPromises.{stays_none, stays_same}
 use Rattle.ibm1620_cli.proofs.Sources.{refuses_stays}
 use Rattle.ibm1620_cli.proofs.trial.try_source.Goals as goal
 
@@ -38,7 +38,7 @@ pub returns-in-Err-clause-stays : goal.returns-in-Err-clause-stays
 returns-in-Err-clause-stays g c = stays_same reads_feed (g.H.Host.seen c.args.host.now) (g.H.Host.seen c.args.host.now) refl
 
 pub returns-in-Ok-assemble_or_refuse-clause-stays : goal.returns-in-Ok-assemble_or_refuse-clause-stays
-returns-in-Ok-assemble_or_refuse-clause-stays g c = subst (λ (mid : Seen). Stays reads_feed mid.world (g.H.Host.seen c.try_assembled-answer.new.host).world) c.in-Ok-assemble_or_refuse.ensures.2 c.try_assembled-answer.ensures.stays
+returns-in-Ok-assemble_or_refuse-clause-stays g c = subst (λ (mid : Seen). LeavesUnread reads_feed mid.world (g.H.Host.seen c.try_assembled-answer.new.host).world) c.in-Ok-assemble_or_refuse.ensures.2 c.try_assembled-answer.ensures.stays
 
 pub returns-in-Err-assemble_or_refuse-clause-stays : goal.returns-in-Err-assemble_or_refuse-clause-stays
 returns-in-Err-assemble_or_refuse-clause-stays g c = stays_none reads_feed (g.H.Host.seen c.args.host.now).world (g.H.Host.seen c.assemble_or_refuse.new.host).world (refuses_stays 1 _ (g.H.Host.seen c.args.host.now) (g.H.Host.seen c.assemble_or_refuse.new.host) c.in-Err-assemble_or_refuse.answer c.in-Err-assemble_or_refuse.ensures)

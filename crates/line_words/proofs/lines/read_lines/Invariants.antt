@@ -1,14 +1,14 @@
 -- The items so far, in front of what the rest comes to, are what the whole comes to; each is as the grammar gives it.
 use Rattle.std.proofs.Common.{◌≡◌, ◌+◌, ◌≤◌, length, All}
 use Rattle.outside_io.specs.Lines.{texts_of}
-use Rattle.line_words.specs.Lines.{items_from, lines_read}
+use Rattle.line_words.specs.Lines.{items_from, items_of_lines}
 use Rattle.line_words.proofs.Reading.{with_front}
 use Rattle.line_words.proofs.lines.read_lines.Given as goal
 
 abbrev pub invariant-loop-text : goal.invariant-loop-text
 invariant-loop-text g l = record {
   counted : l.number + length l.rest ≤ length l.bytes;
-  comes : with_front l.items.items (items_from (g.G.LineGrammar.item_of l.grammar) (l.number + 1) (texts_of l.rest)) ≡ lines_read (g.G.LineGrammar.item_of l.grammar) l.bytes;
+  comes : with_front l.items.items (items_from (g.G.LineGrammar.item_of l.grammar) (l.number + 1) (texts_of l.rest)) ≡ items_of_lines (g.G.LineGrammar.item_of l.grammar) l.bytes;
   fits : All (g.G.LineGrammar.IsItem l.grammar) l.items.items;
 }
 

@@ -1,14 +1,14 @@
 use Rattle.std.proofs.Common.{refl, sym, ap, ◌∙◌}
 use Rattle.indicators.specs.Panel.{with_checks}
 use Rattle.cpu_step.specs.Machine.{state_with}
-use Rattle.cpu_step.proofs.Exact.{load_sound}
+use Rattle.cpu_step.proofs.ExactCards.{load_sound}
 use Rattle.operator_script.specs.Turn.{state_after_action}
 use Rattle.operator_script.proofs.Acting.{set_made, core_made, started_sound}
 use Rattle.operator_script.proofs.turns.act.Goals as goal
 
 pub returns-in-Start : goal.returns-in-Start
 unfolding state_after_action
-returns-in-Start g c = rw (c.in-Start.is, c.started-machine.ensures) (set_made g.row.M _ c.args.machine.now c.args.machine.now.panel _ (g.H.Host.seen c.args.host.now) (λ w h k s. refl), started_sound c.args.machine.now.mode c.requires.mode)
+returns-in-Start g c = rw (c.in-Start.is, c.mode_at_start-machine.ensures) (set_made g.row.M _ c.args.machine.now c.args.machine.now.panel _ (g.H.Host.seen c.args.host.now) (λ w h k s. refl), started_sound c.args.machine.now.mode c.requires.mode)
 
 pub returns-in-Failed : goal.returns-in-Failed
 returns-in-Failed g c = record { is = c.in-Load.is; breaks = c.in-Failed.ensures }

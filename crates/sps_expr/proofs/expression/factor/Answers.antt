@@ -21,7 +21,7 @@ returns-then-first-eq42-clause-some c =
       factor = Here;
       front = ap tokens (sym c.skip_blanks-text.ensures.same ∙ e) ∙ mark_tokens 42 (without_blanks (rest_of c.skip_blanks-text.result.now)) refl;
       good = refl;
-      comes_to = rw (c.bounded.ensures, to_z-of_z w64 c.args.scope.now.here fits);
+      comes_to = rw (c.number_in_range.ensures, to_z-of_z w64 c.args.scope.now.here fits);
       shorter = (let s = rest_shorter c.skip_blanks-text.result.now (omega arith) in omega arith);
     }
 

@@ -17,4 +17,4 @@ pub returns-in-Some : goal.returns-in-Some
 returns-in-Some c text w =
     let fits : SFits w64 c.in-Some.value = search rules in
     let found = found_result (scope_now c.args.scope.now) text c.as_slice.result.now c.find_word.result (sym w.all_digits ∙ c.if-word.false) (sym w.long_is ∙ c.if-word-2.false) (c.as_slice.ensures.value ∙ w.text_is) c.find_word.ensures in
-    rw (c.bounded-in-Some.ensures, to_z-of_z w64 c.in-Some.value fits, c.is_late.ensures) (ap (option_map (result_of c.args.scope.now.before)) (sym (c.in_ok-find_word.was ∙ ap Some c.in-Some.is)) ∙ found)
+    rw (c.number_in_range-in-Some.ensures, to_z-of_z w64 c.in-Some.value fits, c.is_late.ensures) (ap (option_map (result_of c.args.scope.now.before)) (sym (c.in_ok-find_word.was ∙ ap Some c.in-Some.is)) ∙ found)

@@ -1,5 +1,5 @@
 use Rattle.std.proofs.Common.{◌≡◌, ◌-◌, ◌<◌, flat_map}
-use Rattle.sps_generator.specs.Lines.{with_line_feed}
+use Rattle.outside_io.specs.Lines.{with_line_feed}
 use Rattle.sps_generator.specs.Generated.{state_at, statement_lines}
 use Rattle.sps_generator.proofs.deck.generate.Given as goal
 

@@ -1,5 +1,5 @@
 use Rattle.outside_io.specs.declared.host.Unit.TheVariants as units
-use Rattle.sps_pass_two.specs.Kept.{IsPiece, IsBelow}
+use Rattle.sps_pass_two.specs.Kept.{IsPiece, IsRunBelow}
 use Rattle.sps_listing.proofs.ImageLines.{one_piece, no_piece, piece_at}
 use Rattle.sps_listing.proofs.Sending.{more_sent, cut_off, all_sent, left_as}
 use Rattle.sps_listing.proofs.image.image_text.Goals as goal
@@ -7,7 +7,7 @@ use Rattle.sps_listing.proofs.image.image_text.Goals as goal
 pub write_piece-requires : goal.write_piece-requires
 write_piece-requires g c = record {
   piece = piece_at IsPiece c.args.image.now.pieces c.as_slice-piece-items.result.now c.loop-piece.piece-index c.piece-item.result c.as_slice-piece-items.ensures c.args.image.now.kept.each c.loop-piece-test.true c.piece-item.is;
-  below = piece_at (IsBelow 60000) c.args.image.now.pieces c.as_slice-piece-items.result.now c.loop-piece.piece-index c.piece-item.result c.as_slice-piece-items.ensures c.args.image.now.kept.below c.loop-piece-test.true c.piece-item.is;
+  below = piece_at (IsRunBelow 60000) c.args.image.now.pieces c.as_slice-piece-items.result.now c.loop-piece.piece-index c.piece-item.result c.as_slice-piece-items.ensures c.args.image.now.kept.below c.loop-piece-test.true c.piece-item.is;
 }
 
 pub returns-in-Failed : goal.returns-in-Failed

@@ -1,5 +1,5 @@
 use Rattle.outside_io.specs.declared.host.Unit.TheVariants as units
-use Rattle.sps_listing.proofs.Placed.{next_listed, no_line_left, no_statement_left, all_left}
+use Rattle.sps_listing.proofs.PlacedStatements.{next_listed, no_line_left, no_statement_left, all_left}
 use Rattle.sps_listing.proofs.Sending.{begins_as, more_sent, cut_off, all_sent, left_as}
 use Rattle.sps_listing.proofs.listed.listing.Goals as goal
 

@@ -1,6 +1,6 @@
 use Rattle.outside_io.specs.declared.host.Unit.TheVariants as units
 use Rattle.sps_listing.specs.Listing.{listing_text, placed_texts}
-use Rattle.sps_listing.proofs.Placed.{listing_left}
+use Rattle.sps_listing.proofs.PlacedStatements.{listing_left}
 use Rattle.sps_listing.proofs.Sending.{Sending}
 use Rattle.sps_listing.proofs.listed.listing.Given as goal
 

@@ -2,7 +2,7 @@ use Rattle.std.proofs.Common.{refl, ◌∙◌}
 use Rattle.outside_io.specs.declared.host.Unit.TheVariants as units
 use Rattle.sps_scan.specs.Statement.{statement_of}
 use Rattle.sps_pass_two.specs.Making.{text_of_placed}
-use Rattle.sps_listing.proofs.Placed.{line_is}
+use Rattle.sps_listing.proofs.PlacedStatements.{line_is}
 use Rattle.sps_listing.proofs.Sending.{sends_as}
 use Rattle.sps_listing.proofs.listed.write_line.Goals as goal
 

@@ -1,6 +1,6 @@
 use Rattle.std.proofs.Common.{◌≡◌, sym, ◌∙◌, arith}
 use Rattle.std.specs.Prelude.{if◌then◌else◌, Some}
-use Rattle.sps_listing.proofs.Placed.{one_found, none_left}
+use Rattle.sps_listing.proofs.PlacedStatements.{one_found, none_left}
 use Rattle.sps_listing.proofs.statements.statement_at.Goals as goal
 use Rattle.sps_listing.proofs.statements.statement_at.Goals.{then-stands_at, else-stands_at}
 

@@ -1,7 +1,7 @@
 use Rattle.std.proofs.Common.{◌≡◌, ◌+◌, map, drop}
 use Rattle.sps_pass_two.specs.Making.{text_of_placed}
 use Rattle.sps_listing.specs.Listing.{last_statement_at}
-use Rattle.sps_listing.proofs.Placed.{or_before}
+use Rattle.sps_listing.proofs.PlacedStatements.{or_before}
 use Rattle.sps_listing.proofs.statements.statement_at.Given as goal
 
 abbrev pub invariant-loop-placed : goal.invariant-loop-placed

@@ -1,6 +1,6 @@
 use Rattle.std.proofs.Common.{◌∷◌, []}
 use Rattle.outside_io.specs.declared.whole.Sent.TheVariants as sent
-use Rattle.report_lines.specs.Numbers.{with_line_feed}
+use Rattle.outside_io.specs.Lines.{with_line_feed}
 use Rattle.sps_listing.proofs.Sending.{sends_on, cut_short}
 use Rattle.sps_listing.proofs.two_parts.write_parts.Goals as goal
 

@@ -1,6 +1,6 @@
 -- By the table.
 use Rattle.std.proofs.Common.{◌<◌, rules}
-use Rattle.sps_scan.proofs.Allowed.{allowed_at}
+use Rattle.sps_scan.proofs.AllowedTable.{allowed_at}
 use Rattle.sps_scan.proofs.characters.is_allowed.Goals as goal
 
 pub returns : goal.returns

@@ -9,5 +9,5 @@ returns c =
     let b = c.args.below in
     let h = c.requires.below in
     let e : 10 - (10 - c.args.below) ≡ c.args.below = omega arith in
-    c.number_of_pairs.ensures ∙ ap number_of_pairs c.pairs_in-pairs.ensures
+    c.number_of_pairs.ensures ∙ ap number_of_pairs c.pairs_within-pairs.ensures
     ∙ number_kept c.args.w (10 - c.args.below) c.cleared_below-field.result (omega arith) (rw e c.cleared_below-field.ensures.kept) (rw e c.cleared_below-field.ensures.cleared)

@@ -5,7 +5,7 @@ use Rattle.addr_indirect.specs.declared.Stop.{Stop}
 use Rattle.addr_indirect.specs.declared.Stop.TheVariants.{EvenAlpha}
 use Rattle.branch_ops.specs.declared.fields.Operands.{Operands}
 use Rattle.branch_ops.specs.Fields.{operands_from}
-use Rattle.branch_ops.proofs.Fielded.{operands_are}
+use Rattle.branch_ops.proofs.FieldOperands.{operands_are}
 use Rattle.branch_ops.proofs.fields.Fields.operands.Goals as goal
 
 pub returns-in_err-p-clause-is : goal.returns-in_err-p-clause-is

@@ -1,5 +1,5 @@
 use Rattle.std.proofs.Common.{ℕ, List, ◌++◌, length, drop, replicate, ap}
-use Rattle.card_code.proofs.Filled.{copied_over}
+use Rattle.card_code.proofs.FilledCards.{copied_over}
 use Rattle.card_code.proofs.text.Line.new.Goals as goal
 
 pub invariant_of-result-clause-blanks : goal.invariant_of-result-clause-blanks

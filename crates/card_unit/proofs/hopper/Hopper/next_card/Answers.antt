@@ -1,7 +1,7 @@
 use Rattle.std.proofs.Common.{◌≡◌, refl, sym, ◌∙◌, ap, subst}
 use Rattle.std.specs.Prelude.{None, Some, option_map}
 use Rattle.card_code.specs.Entries.{behind}
-use Rattle.card_unit.specs.Hopper.{SaysBehind, IsOneAhead, TellsAtLeast, deck_left}
+use Rattle.card_unit.specs.Hopper.{SaysBehind, IsHopperAhead, TellsAtLeast, deck_left}
 use Rattle.card_unit.proofs.Hoppers.{front_taken, one_of_two, stay_on}
 use Rattle.card_unit.proofs.ReadOn.{card_more}
 use Rattle.card_unit.proofs.hopper.Hopper.next_card.Goals as goal
@@ -28,7 +28,7 @@ returns-clause-reads g c = λ start readings had.
     let after = g.H.Host.seen c.more_behind.new.host in
     let held = c.in-AtFront.ensures.reads start readings had in
     let front : mid.front ≡ Some c.in-Some.front = sym c.more_behind.ensures.deck.front ∙ c.in-Some.is in
-    let ahead : IsOneAhead (record end { front = None }) after.world =
+    let ahead : IsHopperAhead (record end { front = None }) after.world =
     elim c.match-more_behind.branch [
       | in-Yes w ↦ w.in-Yes.ensures.ahead c.in-Some.front front held.ahead
       | in-No w ↦ w.in-No.ensures.ahead c.in-Some.front front held.ahead

@@ -3,7 +3,7 @@ use Rattle.outside_io.specs.declared.host.Unit.TheVariants as units
 use Rattle.card_code.specs.Entries.{Entry}
 use Rattle.card_unit.specs.Pile.{card_entry}
 use Rattle.card_unit.specs.Hopper.{entries_in_order}
-use Rattle.card_unit.proofs.Joined.{joined_cards, entries_map}
+use Rattle.card_unit.proofs.HopperOrder.{joined_cards, entries_map}
 use Rattle.card_unit.proofs.ReadOn.{begins}
 use Rattle.card_unit.proofs.hopper.Hopper.of_cards.Goals as goal
 

@@ -6,10 +6,10 @@ use Rattle.line_words.specs.Lines.{ReadsLines}
 use Rattle.line_words.specs.declared.lines.LineFault.{LineFault}
 use Rattle.line_words.specs.declared.lines.LineFault.TheVariants as lines
 use Rattle.console_debug.specs.Grammar.{command_of, commands_of}
-use Rattle.console_debug.specs.CommandLists.{Reads, fault_of}
+use Rattle.console_debug.specs.CommandLists.{ReadsAsCommands, command_fault_of}
 use Rattle.console_debug.proofs.commands.Commands.read.Goals as goal
 
-refused : (positions : ℕ) (bytes : List ℕ) (fault : LineFault) → ReadsLines (command_of positions) bytes (Err fault) → Reads positions bytes (Err (fault_of fault))
+refused : (positions : ℕ) (bytes : List ℕ) (fault : LineFault) → ReadsLines (command_of positions) bytes (Err fault) → ReadsAsCommands positions bytes (Err (command_fault_of fault))
 unfolding commands_of
 refused positions bytes (lines.BadLine line) reads = reads
 refused positions bytes lines.Memory reads = reads

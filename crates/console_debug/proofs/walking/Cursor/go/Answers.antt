@@ -19,7 +19,7 @@ returns-in-None-clause-carries g c =
     let after = g.H.Host.seen c.write_all.new.host in
     let how = c.write_all.result in
     stopped m c.args.self.now.run.limit placed (set_now c.args.breaks.now) old mid after how c.in-None.ensures.stops
-    (subst (λ (text : List ℕ). Sends between after units.Report text how) (c.as_bytes.ensures.value ∙ c.deref.ensures.0 ∙ c.break_line-line.ensures placed c.number_at.ensures) c.write_all.ensures)
+    (subst (λ (text : List ℕ). Sends between after units.Report text how) (c.as_bytes.ensures.value ∙ c.deref.ensures.0 ∙ c.break_line-line.ensures placed c.statement_number.ensures) c.write_all.ensures)
 
 pub returns-in-Failed-clause-carries : goal.returns-in-Failed-clause-carries
 returns-in-Failed-clause-carries g c =

@@ -4,7 +4,7 @@ use Rattle.outside_io.specs.declared.host.Unit.TheVariants as units
 use Rattle.outside_io.specs.Whole.{Sends}
 use Rattle.console_debug.specs.Session.{steps}
 use Rattle.console_debug.specs.CursorStates.{cursor_state_of}
-use Rattle.console_debug.specs.Carries.{debugger_state, Underway}
+use Rattle.console_debug.specs.Carries.{debugger_state, PartsUnderway}
 use Rattle.console_debug.proofs.StepByStep.{steps_done, stepped_out, step_broke, step_then, step_failed}
 use Rattle.console_debug.proofs.Heading.{to_the_end}
 use Rattle.console_debug.proofs.walking.Cursor.step.Goals as goal
@@ -24,7 +24,7 @@ loop-step-init g c =
           let first = debugger_state m (cursor_state_of m c.args.self.now (g.H.Host.seen c.args.host.now)) breaks in
           let now = debugger_state m (cursor_state_of m c.step_kept.new.self (g.H.Host.seen c.step_kept.new.host)) breaks in
           rw (same.0.2)
-          (subst (λ k. Underway m c.args.self.now.run.limit placed (steps c.args.count) (steps k) first now) all (c.in-Some.ensures.carries placed breaks));
+          (subst (λ k. PartsUnderway m c.args.self.now.run.limit placed (steps c.args.count) (steps k) first now) all (c.in-Some.ensures.carries placed breaks));
     }
 
 pub returns-in-None-clause-carries : goal.returns-in-None-clause-carries

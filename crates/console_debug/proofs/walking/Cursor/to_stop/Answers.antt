@@ -35,10 +35,10 @@ loop-how-preserved-in-Acted g c =
 pub loop-how-smaller-in-Acted : goal.loop-how-smaller-in-Acted
 loop-how-smaller-in-Acted g c = rw (c.advance.ensures.same.0.2) c.in-Acted.ensures.advances.fewer
 
-pub returns-then-is_at_break-clause-stops : goal.returns-then-is_at_break-clause-stops
-returns-then-is_at_break-clause-stops g c =
+pub returns-then-stands_at_break-clause-stops : goal.returns-then-stands_at_break-clause-stops
+returns-then-stands_at_break-clause-stops g c =
     rw (sym c.loop-how.invariant.same.0.2)
-    (stopped_on (placed_texts c.args.assembled.now) (set_now c.args.breaks.now) g.row.M c.loop-how.self.run.limit _ _ _ c.loop-how.invariant.heads (sym c.is_at_break.ensures ∙ c.if-is_at_break.true) c.in-Stepped.ensures.advances)
+    (stopped_on (placed_texts c.args.assembled.now) (set_now c.args.breaks.now) g.row.M c.loop-how.self.run.limit _ _ _ c.loop-how.invariant.heads (sym c.stands_at_break.ensures ∙ c.if-stands_at_break.true) c.in-Stepped.ensures.advances)
 
 pub loop-how-preserved : goal.loop-how-preserved
 loop-how-preserved g c =
@@ -49,7 +49,7 @@ loop-how-preserved g c =
       furthest = c.advance.ensures.furthest;
       fit = rw (next.0.2) c.in-Stepped.ensures.advances.fit;
       heads = rw (next.0.2)
-          (stepped_on (placed_texts c.args.assembled.now) (set_now c.args.breaks.now) g.row.M c.loop-how.self.run.limit _ _ _ c.loop-how.invariant.heads (sym c.is_at_break.ensures ∙ c.if-is_at_break.false) c.in-Stepped.ensures.advances);
+          (stepped_on (placed_texts c.args.assembled.now) (set_now c.args.breaks.now) g.row.M c.loop-how.self.run.limit _ _ _ c.loop-how.invariant.heads (sym c.stands_at_break.ensures ∙ c.if-stands_at_break.false) c.in-Stepped.ensures.advances);
     }
 
 pub loop-how-smaller : goal.loop-how-smaller

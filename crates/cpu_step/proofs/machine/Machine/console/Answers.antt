@@ -2,8 +2,8 @@ use Rattle.std.proofs.Common.{refl}
 use Rattle.typewriter.specs.Keys as keyboard
 use Rattle.typewriter.specs.Typing.{control, write_numeric, write_alphameric, write_dump}
 use Rattle.cpu_step.specs.Act.{on_console}
-use Rattle.cpu_step.proofs.Written.{typing_acts, pair_typing_acts}
-use Rattle.cpu_step.proofs.Keyed.{keyboard_acts}
+use Rattle.cpu_step.proofs.WrittenTexts.{typing_acts, pair_typing_acts}
+use Rattle.cpu_step.proofs.KeyRows.{keyboard_acts}
 use Rattle.cpu_step.proofs.machine.Machine.console.Goals as goal
 
 pub returns-in-Space : goal.returns-in-Space
@@ -32,8 +32,8 @@ returns-in-WriteAlpha g c = rw (c.in-WriteAlpha.is, c.typing_outcome-in-WriteAlp
 
 pub returns-in-ReadNumeric : goal.returns-in-ReadNumeric
 unfolding on_console
-returns-in-ReadNumeric g c = rw (c.in-ReadNumeric.is, c.keyboard_outcome.ensures) (keyboard_acts g.row.M c.args.self.now _ _ _ refl c.read_num.ensures.reads_on (λ n. keyboard.read_numeric n c.args.p) refl refl refl c.args.regs c.read_num.result c.requires.regs c.size_law.ensures.length c.read_num.ensures.reads)
+returns-in-ReadNumeric g c = rw (c.in-ReadNumeric.is, c.keyboard_outcome.ensures) (keyboard_acts g.row.M c.args.self.now _ _ _ refl c.read_num.ensures.reads_on (λ n. keyboard.read_line_numeric n c.args.p) refl refl refl c.args.regs c.read_num.result c.requires.regs c.size_law.ensures.length c.read_num.ensures.reads)
 
 pub returns-in-ReadAlpha : goal.returns-in-ReadAlpha
 unfolding on_console
-returns-in-ReadAlpha g c = rw (c.in-ReadAlpha.is, c.keyboard_outcome-in-ReadAlpha.ensures) (keyboard_acts g.row.M c.args.self.now _ _ _ refl c.read_alpha.ensures.reads_on (λ n. keyboard.read_alphameric n c.args.p) refl refl refl c.args.regs c.read_alpha.result c.requires.regs c.size_law.ensures.length c.read_alpha.ensures.reads)
+returns-in-ReadAlpha g c = rw (c.in-ReadAlpha.is, c.keyboard_outcome-in-ReadAlpha.ensures) (keyboard_acts g.row.M c.args.self.now _ _ _ refl c.read_alpha.ensures.reads_on (λ n. keyboard.read_line_alphameric n c.args.p) refl refl refl c.args.regs c.read_alpha.result c.requires.regs c.size_law.ensures.length c.read_alpha.ensures.reads)

@@ -1,6 +1,6 @@
 use Rattle.std.proofs.Common.{refl}
 use Rattle.cpu_step.specs.Act.{on_disk}
-use Rattle.cpu_step.proofs.Disked.{seek_acts, transfer_acts}
+use Rattle.cpu_step.proofs.DiskRows.{seek_acts, transfer_acts}
 use Rattle.cpu_step.proofs.machine.Machine.disk.Goals as goal
 
 pub returns-in-Seek : goal.returns-in-Seek

@@ -4,7 +4,7 @@ use Rattle.traces.specs.Break.{Stops, Empty, NoKeys, Jam}
 use Rattle.cpu_step.specs.Act.{Goes, Halts}
 use Rattle.cpu_step.specs.Step.{instruction}
 use Rattle.cpu_step.specs.Machine.{turned_to}
-use Rattle.cpu_step.proofs.Shown.{did_mode, step_made, step_stops, checked_by, step_fails}
+use Rattle.cpu_step.proofs.ShownStates.{did_mode, step_made, step_stops, checked_by, step_fails}
 use Rattle.cpu_step.proofs.machine.Machine.settle.Goals as goal
 
 pub returns-in-None : goal.returns-in-None

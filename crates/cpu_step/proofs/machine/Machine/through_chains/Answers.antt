@@ -3,7 +3,7 @@ use Rattle.std.proofs.Common.{refl, sym, ◌∙◌, arith}
 use Rattle.cpu_step.specs.Act.{act_over}
 use Rattle.cpu_step.specs.Known.{found_with, uses_at}
 use Rattle.cpu_step.specs.Step.{instruction}
-use Rattle.cpu_step.proofs.Shown.{acts_as, row_acts, held_act}
+use Rattle.cpu_step.proofs.ShownStates.{acts_as, row_acts, held_act}
 use Rattle.cpu_step.proofs.Quick.{memo_apart}
 use Rattle.cpu_step.proofs.machine.Machine.through_chains.Goals as goal
 

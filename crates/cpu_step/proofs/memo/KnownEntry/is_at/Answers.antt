@@ -1,7 +1,7 @@
 -- The entry's words stand in core, under its masks.
 use Rattle.std.proofs.Common.{ℕ, ◌≡◌, true, nat_eq, sym, ◌∙◌, arith}
 use Rattle.std.proofs.lemmas.Bool.Decides.{nat_tests}
-use Rattle.cpu_step.proofs.Placed.{comes_of}
+use Rattle.cpu_step.proofs.MemoEntries.{comes_of}
 use Rattle.cpu_step.proofs.memo.KnownEntry.is_at.Goals as goal
 use Rattle.cpu_step.proofs.memo.KnownEntry.is_at.Goals.{then-self-ir, else-self-ir}
 

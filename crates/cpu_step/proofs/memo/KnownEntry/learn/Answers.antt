@@ -1,6 +1,6 @@
 -- The words of the new entry stand in core, from which they were taken.
 use Rattle.std.proofs.Common.{◌/◌, refl, arith}
-use Rattle.cpu_step.proofs.Placed.{comes_by}
+use Rattle.cpu_step.proofs.MemoEntries.{comes_by}
 use Rattle.cpu_step.proofs.memo.KnownEntry.learn.Goals as goal
 
 pub returns : goal.returns

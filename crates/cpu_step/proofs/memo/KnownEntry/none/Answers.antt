@@ -1,6 +1,6 @@
 -- Core begins at 00000, and nothing is said of `Nothing`.
 use Rattle.std.proofs.Common.{refl, arith}
-use Rattle.cpu_step.proofs.Placed.{six_whole, nothing}
+use Rattle.cpu_step.proofs.MemoEntries.{six_whole, nothing}
 use Rattle.cpu_step.proofs.memo.KnownEntry.none.Goals as goal
 
 pub invariant_of-result : goal.invariant_of-result

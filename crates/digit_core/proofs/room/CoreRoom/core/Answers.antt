@@ -4,7 +4,7 @@ use Rattle.std.proofs.lemmas.List.{length-replicate, take_all}
 use Rattle.std.proofs.lemmas.List.Elements.{All-replicate}
 use Rattle.digit_core.specs.Size.{size}
 use Rattle.digit_core.proofs.Sixes.{zero_cells, zeros}
-use Rattle.digit_core.proofs.Sound.{zeros_sound}
+use Rattle.digit_core.proofs.SoundCore.{zeros_sound}
 use Rattle.digit_core.proofs.AddTable.{none_known}
 use Rattle.digit_core.proofs.room.CoreRoom.core.Goals as goal
 

@@ -11,4 +11,4 @@ returns-then-self g c = unless_over c.args.self.now.limit c.args.self.now.machin
 
 pub returns : goal.returns
 returns g c =
-    unless_due c.args.self.now.limit c.args.self.now.machine.now.mode c.args.self.now.steps _ _ (not c.is_due.result) (sym c.is_running.ensures ∙ c.if-not-is_running.false) c.if-self.false refl (sym c.is_due.ensures ∙ twice c.is_due.result)
+    unless_due c.args.self.now.limit c.args.self.now.machine.now.mode c.args.self.now.steps _ _ (not c.is_front_due.result) (sym c.is_running.ensures ∙ c.if-not-is_running.false) c.if-self.false refl (sym c.is_front_due.ensures ∙ twice c.is_front_due.result)

@@ -2,7 +2,7 @@
 use Rattle.std.proofs.Common.{◌≡◌, ◌+◌, ◌<◌, ℕ, refl, arith}
 use Rattle.cpu_step.specs.declared.machine.Turned.{Turned}
 use Rattle.cpu_step.specs.declared.machine.Turned.TheVariants as turned
-use Rattle.cpu_step.proofs.Exact.{step_sound}
+use Rattle.cpu_step.proofs.ExactCards.{step_sound}
 use Rattle.operator_script.specs.Run.{standing_of, run_state}
 use Rattle.operator_script.proofs.NextStep.{running_goes}
 use Rattle.operator_script.proofs.Moving.{moves_stepped, breaks_stepped}

@@ -6,10 +6,10 @@ use Rattle.line_words.specs.Lines.{ReadsLines}
 use Rattle.line_words.specs.declared.lines.LineFault.{LineFault}
 use Rattle.line_words.specs.declared.lines.LineFault.TheVariants as lines
 use Rattle.operator_script.specs.Script.{line_of, script_of}
-use Rattle.operator_script.specs.Scripts.{Reads, fault_of}
+use Rattle.operator_script.specs.Scripts.{ReadsAsScript, script_fault_of}
 use Rattle.operator_script.proofs.script.Script.read.Goals as goal
 
-refused : (positions : ℕ) (bytes : List ℕ) (fault : LineFault) → ReadsLines (line_of positions) bytes (Err fault) → Reads positions bytes (Err (fault_of fault))
+refused : (positions : ℕ) (bytes : List ℕ) (fault : LineFault) → ReadsLines (line_of positions) bytes (Err fault) → ReadsAsScript positions bytes (Err (script_fault_of fault))
 unfolding script_of
 refused positions bytes (lines.BadLine line) reads = reads
 refused positions bytes lines.Memory reads = reads

@@ -1,5 +1,5 @@
 use Rattle.std.proofs.Common.{arith}
-use Rattle.outside_io.proofs.Untold.{given_below}
+use Rattle.outside_io.proofs.UntoldHosts.{given_below}
 use Rattle.outside_io.proofs.opened.OpenFiles.rival.Goals as goal
 
 pub offset_bounds-self-place : goal.offset_bounds-self-place

@@ -1,6 +1,6 @@
 use Rattle.std.proofs.Common.{◌≡◌, length, arith, rules}
 use Rattle.outside_io.specs.declared.host.TheConstants.{UNIT_COUNT}
-use Rattle.outside_io.proofs.Untold.{given_below}
+use Rattle.outside_io.proofs.UntoldHosts.{given_below}
 use Rattle.outside_io.proofs.opened.OpenFiles.write.Goals as goal
 
 pub offset_bounds-self-place : goal.offset_bounds-self-place

@@ -1,4 +1,4 @@
-use Rattle.outside_io.proofs.Untold.{given_below}
+use Rattle.outside_io.proofs.UntoldHosts.{given_below}
 use Rattle.outside_io.proofs.real.RealHost.is_dropped.Goals as goal
 
 pub bounds-self-place : goal.bounds-self-place

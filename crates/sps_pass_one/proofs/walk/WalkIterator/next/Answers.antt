@@ -1,5 +1,5 @@
 use Rattle.std.proofs.Common.{refl, ap, length, ◌+◌, ◌<◌, arith, rules}
-use Rattle.sps_pass_one.specs.Walk.{lines_left, WalkText}
+use Rattle.sps_pass_one.specs.Walk.{source_lines_left, WalkText}
 use Rattle.sps_pass_one.proofs.Walking.{lines_front, one_less}
 use Rattle.sps_pass_one.proofs.walk.WalkIterator.next.Goals as goal
 
@@ -20,5 +20,5 @@ returns-clause-goes c =
     let front = lines_front i.number i.rest.now c.in_ok-text.text.now c.in_ok-text.behind.now (omega arith) (omega (arith, e.shorter)) e.line e.behind in
     let before = ap (λ (w : WalkText). length w.lines) c.self.view_is in
     let shorter = one_less _ _ _ front in
-    let less : length (lines_left (i.number + 1) c.in_ok-text.behind.now) < length c.args.self.now.lines = omega (arith, before, shorter) in
+    let less : length (source_lines_left (i.number + 1) c.in_ok-text.behind.now) < length c.args.self.now.lines = omega (arith, before, shorter) in
     search rules

@@ -1,7 +1,7 @@
 use Rattle.std.proofs.Common.{◌≡◌, length, ℕ, true, false, get_or, set, ap, ◌∙◌, refl, arith, rules}
 use Rattle.outside_io.specs.declared.host.TheConstants.{UNIT_COUNT}
 use Rattle.outside_io.specs.World.{place}
-use Rattle.outside_io.proofs.Untold.{place_below, flag_set}
+use Rattle.outside_io.proofs.UntoldHosts.{place_below, flag_set}
 use Rattle.outside_io.proofs.InMemory.{rest_opened, pack_opened}
 use Rattle.outside_io.proofs.in_memory.files.Files.bind.Goals as goal
 

@@ -2,7 +2,7 @@ use Rattle.std.proofs.Common.{◌≡◌, length, take, refl, arith, rules}
 use Rattle.std.proofs.lemmas.List.{length-take}
 use Rattle.std.proofs.lemmas.Bool.Decides.{nat_tests}
 use Rattle.outside_io.specs.declared.host.TheConstants.{UNIT_COUNT}
-use Rattle.outside_io.proofs.Untold.{place_below}
+use Rattle.outside_io.proofs.UntoldHosts.{place_below}
 use Rattle.outside_io.proofs.InMemory.{rest_step, asked_step}
 use Rattle.outside_io.proofs.in_memory.files.Files.take.Goals as goal
 

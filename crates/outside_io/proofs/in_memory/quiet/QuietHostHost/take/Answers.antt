@@ -2,7 +2,7 @@ use Rattle.std.proofs.Common.{◌≡◌, ℕ, arith, ap, ◌∙◌, take, refl}
 use Rattle.std.specs.Prelude.{None}
 use Rattle.outside_io.specs.World.{one_reading, world_after_take}
 use Rattle.outside_io.specs.Files.{world_of}
-use Rattle.outside_io.proofs.Untold.{nothing}
+use Rattle.outside_io.proofs.UntoldHosts.{nothing}
 use Rattle.outside_io.proofs.FilesWorld.{gives_bytes, gives_world}
 use Rattle.outside_io.proofs.in_memory.quiet.QuietHostHost.take.Goals as goal
 
