@@ -6,6 +6,7 @@ from signs import Refused, to_text
 from states import AT, debug, differing, place, shows
 
 FRAMES_MOST = 1000      # in one answer: their commands have at most 960,000 bytes, with the largest core
+LEAVES_CORE = re.compile(r"(AT \d+|HALT) (START|SWITCH|OVERFLOW|IO)\b")     # what the operator does that changes no cell; all else may
 
 
 def skipped(count):
@@ -30,7 +31,7 @@ async def frames(run, n, count):
     done = await debug(run, commands, run.script, run.inputs.limit + run.offset)
     # Where the operator has changed core behind a step, core there is looked at by itself: a session shows it as the step has left it. So it is at the
     # first place: there a deck has been loaded by a key of the operator.
-    others = {run.first, *(at for at, line in zip(acts, run.script) if at is not None and ("FLIP" in line or "LOAD" in line))}
+    others = {run.first, *(at for at, line in zip(acts, run.script) if at is not None and not LEAVES_CORE.match(line))}
     reader = Reader(run, done.out, skipped(offset))
     begin = core = (await place(run, n)).core if n in others else reader.cells
     made = []

@@ -10,8 +10,9 @@ use digit_core::Digit;
 
 /// The digit of a character of a card or a keyboard line, read numerically.
 ///
-/// Besides the object characters, `A` to `I` are 1 to 9, `/` and `S` to `Z` are 1 to 9 too, `+` and a blank are 0, and `-` is a
-/// flagged 0. `None` for any other byte, which a reading instruction takes for an unflagged 0 with the read check on.
+/// The object characters are the digits that they stand for; letters, a blank and some signs are read by their holes, as `A` and `S`,
+/// which are 1 and 2. docs/formats.md has the table. `None` for a byte that is not in it, which a reading instruction takes for an
+/// unflagged 0 with the read check on.
 /// Source: CPU manual, card codes; the characters of flags and marks, and which bytes are none, are this project's own.
 pub fn num_of(c: u8) -> Option<Digit>
     ensures is { result ≡ num_of c }
