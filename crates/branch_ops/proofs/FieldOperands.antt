@@ -18,7 +18,7 @@ use Rattle.addr_indirect.proofs.Windows.{field_is}
 use Rattle.instruction_table.specs.declared.MayStore.{MayStore}
 use Rattle.branch_ops.specs.declared.fields.Uses.{Uses}
 use Rattle.branch_ops.specs.declared.fields.Uses.TheVariants.{Both, OddBoth, Immediate, First, OddFirst, Neither}
-use Rattle.branch_ops.specs.Fields.{digit_with_above, part_number, kind_of, number_or_zero, field_from, fields_used, operand_from, operands_from, HoldOperands, ComeTo}
+use Rattle.branch_ops.specs.Fields.{digit_with_above, part_number, kind_of, number_or_zero, field_from, fields_used, field_operand, fields_operands, HoldOperands, ComeTo}
 use Rattle.branch_ops.specs.declared.fields.FieldKind.TheVariants as kind
 use Rattle.branch_ops.specs.declared.fields.Fields.{Fields}
 
@@ -122,7 +122,7 @@ module _ (core : List ℕ) (ir : ℕ) (i : Instr) (there : fetch core ir ≡ Ok 
       chained true false test under flagged = let c = field_on (length core) 0 core u some (record { number = v; flagged = d.flag }) (field_is core u v above d units others is) (grind (arith, nat_tests)) flagged (grind (arith, nat_tests)) in rw all at c
       chained false low test under flagged = past (grind (arith, nat_tests))
 
-      held : (flag : Bool) → d.flag ≡ flag → operand core u ≡ operand_from core ir (kind_of (Some v) flag) v
+      held : (flag : Bool) → d.flag ≡ flag → operand core u ≡ field_operand core ir (kind_of (Some v) flag) v
       held false plain = address (nat_lt v (length core)) refl plain
       held true flagged = chained (nat_lt v (length core)) (nat_lt v 4) refl refl flagged
 
@@ -130,27 +130,27 @@ module _ (core : List ℕ) (ir : ℕ) (i : Instr) (there : fetch core ir ≡ Ok 
     number_by b m = digit_with_above (if b then Some (part i k) else None) m
 
     by_parts : (b : Bool) → nat_le (part i k) 9 ≡ b → (m : Option ℕ) → number_down core (u - 1) 4 ≡ or_digit m → number_down core u 5 ≡ or_digit (number_by b m)
-        → operand core u ≡ operand_from core ir (kind_of (number_by b m) (digit k).flag) (number_or_zero (number_by b m))
+        → operand core u ≡ field_operand core ir (kind_of (number_by b m) (digit k).flag) (number_or_zero (number_by b m))
     by_parts false test m others whole = undecimal whole
     by_parts true test None others whole = undecimal whole
     by_parts true test (Some above) others whole =
         let units : decimal_at core u ≡ Ok (digit k) = decimal_is k below ∙ rw test refl in
         held (digit k) (part i k + 10 * above) above units others refl (digit k).flag refl
 
-    operand_is : operand core u ≡ operand_from core ir (field_from i k).1 (field_from i k).0
+    operand_is : operand core u ≡ field_operand core ir (field_from i k).1 (field_from i k).0
     unfolding part_number
     operand_is =
         let e : u - 1 ≡ ir + (k - 1) = omega arith in
         by_parts (nat_le (part i k) 9) refl (part_number i (k - 1) 4) (rw e (number_is 4 (k - 1) (omega arith) (omega arith))) (number_is 5 k below (omega arith))
 
-  p_is : p_operand core ir ≡ operand_from core ir (field_from i 6).1 (field_from i 6).0
+  p_is : p_operand core ir ≡ field_operand core ir (field_from i 6).1 (field_from i 6).0
   p_is = operand_is 6 (omega arith) (omega arith)
 
-  q_is : q_operand core ir ≡ operand_from core ir (field_from i 11).1 (field_from i 11).0
+  q_is : q_operand core ir ≡ field_operand core ir (field_from i 11).1 (field_from i 11).0
   q_is = operand_is 11 (omega arith) (omega arith)
 
   -- an operand that isn't used
-  none_is : operand_from core ir kind.Address 0 ≡ Ok 0
+  none_is : field_operand core ir kind.Address 0 ≡ Ok 0
   none_is = let t : nat_lt 0 (length core) ≡ true = grind (arith, nat_tests, some) in rw t refl
 
   pub fields_hold : (u : Uses) (stores : MayStore) → HoldOperands u core ir (fields_used u stores i)
@@ -161,5 +161,5 @@ module _ (core : List ℕ) (ir : ℕ) (i : Instr) (there : fetch core ir ≡ Ok 
   fields_hold OddFirst stores = rw (p_is, none_is) refl
   fields_hold Neither stores = rw none_is refl
 
-pub operands_are : (core : List ℕ) (ir : ℕ) (f : Fields) → ComeTo f core ir (operands_from f core ir)
+pub operands_are : (core : List ℕ) (ir : ℕ) (f : Fields) → ComeTo f core ir (fields_operands f core ir)
 operands_are core ir f = λ u stores i there are. subst (HoldOperands u core ir) (sym are) (fields_hold core ir i there u stores)

@@ -87,17 +87,17 @@ abbrev pub if_inside : List ℕ → ℕ → Result ℕ Stop → Result ℕ Stop
 if_inside core v r = if nat_lt v (length core) then r else Err stop.Address
 
 -- the operand that a field with the number v holds, of the instruction at ir
-abbrev pub operand_from : List ℕ → ℕ → FieldKind → ℕ → Result ℕ Stop
-operand_from core ir Immediate v = Ok (immediate_q ir)
-operand_from core ir Address v = if_inside core v (Ok v)
-operand_from core ir Chain v = if_inside core v (if nat_lt v 4 then Err stop.Address else further core v)
-operand_from core ir Undecimal v = Err stop.Digit
+abbrev pub field_operand : List ℕ → ℕ → FieldKind → ℕ → Result ℕ Stop
+field_operand core ir Immediate v = Ok (immediate_q ir)
+field_operand core ir Address v = if_inside core v (Ok v)
+field_operand core ir Chain v = if_inside core v (if nat_lt v 4 then Err stop.Address else further core v)
+field_operand core ir Undecimal v = Err stop.Digit
 
 -- the operands that fields hold, of the instruction at ir
-abbrev pub operands_from : Fields → List ℕ → ℕ → Result Operands Stop
-operands_from f core ir = do
-  p ← operand_from core ir f.p_kind f.p
-  q ← operand_from core ir f.q_kind f.q
+abbrev pub fields_operands : Fields → List ℕ → ℕ → Result Operands Stop
+fields_operands f core ir = do
+  p ← field_operand core ir f.p_kind f.p
+  q ← field_operand core ir f.q_kind f.q
   if f.odd && p % 2 == 0 then Err stop.EvenAlpha else Ok (record { p = p; q = q })
 
 -- an immediate Q is the instruction's own, and no number
@@ -106,12 +106,12 @@ number_or_own ir Immediate v = immediate_q ir
 number_or_own ir kind v = v
 
 -- the operands of the instruction at ir, where they are its fields' numbers, or an immediate Q
-abbrev pub operands_at : ℕ → Fields → Operands
-operands_at ir f = record { p = f.p; q = number_or_own ir f.q_kind f.q }
+abbrev pub fields_at : ℕ → Fields → Operands
+fields_at ir f = record { p = f.p; q = number_or_own ir f.q_kind f.q }
 
 -- the operands that fields hold are those of the instruction at ir in this core, which uses these
 abbrev pub HoldOperands : Uses → List ℕ → ℕ → Fields → Type 0
-HoldOperands u core ir f = operands_from f core ir ≡ operands u core ir
+HoldOperands u core ir f = fields_operands f core ir ≡ operands u core ir
 
 -- what these came to is what the operands come to of each instruction that stands at ir in this core and has these fields
 abbrev pub ComeTo : Fields → List ℕ → ℕ → Result Operands Stop → Type 0

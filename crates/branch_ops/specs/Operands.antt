@@ -71,11 +71,11 @@ code_by column.Indicator i = tested_code i
 code_by u i = 0
 
 -- operands, with the indicator that a branch tests
-abbrev pub operands_of_branch : Operands → ℕ → BranchOperands
-operands_of_branch o code = record { p = o.p; q = o.q; code = code }
+abbrev pub operands_tested : Operands → ℕ → BranchOperands
+operands_tested o code = record { p = o.p; q = o.q; code = code }
 
 -- those of the branch i at ir, by its column; no branch leaves them to a device
 abbrev pub branch_operands : OperandUse → List ℕ → ℕ → Instr → Result BranchOperands Stop
 branch_operands u core ir i = do
   o ← operands (uses_by u Neither) core ir
-  Ok (operands_of_branch o (code_by u i))
+  Ok (operands_tested o (code_by u i))

@@ -2,8 +2,8 @@
 ghost use Rattle.std.specs.Prelude.{◌≡◌, ◌+◌, ◌<◌, ◌≤◌, ◌%◌, IfOk, true};
 ghost use Rattle.digit_core.specs.Size.{size};
 ghost use Rattle.digit_core.specs.declared.TheConstants.{MOST_POSITIONS};
-ghost use Rattle.branch_ops.specs.Fields.{ComeTo, decimal_part, field_from, fields_used, is_chained, part_number, operand_from, operands_at, operands_from};
-ghost use Rattle.branch_ops.specs.Operands.{operands_of_branch, uses_by};
+ghost use Rattle.branch_ops.specs.Fields.{ComeTo, decimal_part, field_from, fields_used, is_chained, part_number, field_operand, fields_at, fields_operands};
+ghost use Rattle.branch_ops.specs.Operands.{operands_tested, uses_by};
 
 use crate::rows::BranchOperands;
 use addr_indirect::{Instr, LOWEST_UNITS, Stop, further, immediate_q};
@@ -63,7 +63,7 @@ impl Operands {
     /// Source: CPU manual, branch instructions.
     #[inline(always)]
     pub fn tested(self, code: u8) -> BranchOperands
-        ensures { result ≡ operands_of_branch self code }
+        ensures { result ≡ operands_tested self code }
     {
         let Operands { p, q } = self;
         BranchOperands { p, q, code }
@@ -94,7 +94,7 @@ impl FieldKind {
     #[inline(always)]
     pub fn operand<const M: u32>(self, core: &Core<M>, ir: u32, v: u32) -> Result<u32, Stop>
         requires { ir + 12 ≤ size M }
-        ensures is { result ≡ operand_from core.now ir self v }
+        ensures is { result ≡ field_operand core.now ir self v }
         ensures in_core { IfOk result (λ a. a < size M) }
     {
         core.size_law();
@@ -193,7 +193,7 @@ impl Fields {
     #[inline(always)]
     pub fn at(self, ir: u32) -> Operands
         requires { ir + 12 ≤ MOST_POSITIONS }
-        ensures { result ≡ operands_at ir self }
+        ensures { result ≡ fields_at ir self }
     {
         let q = match self.q_kind {
             FieldKind::Immediate => immediate_q(ir),
@@ -211,7 +211,7 @@ impl Fields {
     pub fn operands<const M: u32>(self, core: &Core<M>, ir: u32) -> Result<Operands, Stop>
         requires { ir + 12 ≤ size M }
         ensures is { ComeTo self core.now ir result }
-        ensures from { result ≡ operands_from self core.now ir }
+        ensures from { result ≡ fields_operands self core.now ir }
         ensures p { IfOk result (λ o. o.p < size M) }
         ensures q { IfOk result (λ o. o.q < size M) }
         ensures odd { self.odd ≡ true → IfOk result (λ o. o.p % 2 ≡ 1) }

@@ -30,7 +30,7 @@ use Rattle.instruction_table.specs.Table.{instruction_of, op_of}
 use Rattle.cpu_step.specs.Rows.{row_of_op, with_columns, row_by_table, instruction_row, row_by, row_of_code, takes_odd}
 use Rattle.cpu_step.specs.Checks.{wants_odd}
 use Rattle.cpu_step.specs.Act.{operands}
-use Rattle.branch_ops.specs.Fields.{part_number, fields_used, operands_at, HoldOperands}
+use Rattle.branch_ops.specs.Fields.{part_number, fields_used, fields_at, HoldOperands}
 use Rattle.cpu_step.specs.Known.{instr_at, AreTwelve, AreSettled, IsRow, IsB, IsKnown, found_with, uses_in, uses_at, code_in, ComesToRow, ComesToB, ComesTo}
 use Rattle.branch_ops.proofs.FieldOperands.{fields_hold}
 use Rattle.cpu_step.proofs.TableRows.{uses_odd, b_columns}
@@ -123,16 +123,16 @@ module _ (m low high : ℕ) (good : TwelveAreGood low high) (core : List ℕ) (i
     held = subst (λ (u : Uses). HoldOperands u core ir f) (sym same_uses) (holds row f is)
 
   module _ (row : Row) (f : Fields) (settled : AreSettled (size m) f) (is : IsRow (instr_at ir low high) row f) where
-    come : operands (uses_at ir low high) core ir ≡ Ok (operands_at ir f)
+    come : operands (uses_at ir low high) core ir ≡ Ok (fields_at ir f)
     come = sym (held row f is) ∙ settled.works core ir long
 
     p_below : f.p < length core
     p_below = let h = settled.p_below in omega arith
 
-    q_below : (operands_at ir f).q < length core
+    q_below : (fields_at ir f).q < length core
     q_below = let h = settled.q_below ir (omega arith) in omega arith
 
-    row_comes : ComesToRow core ir low high row f.stores (operands_at ir f)
+    row_comes : ComesToRow core ir low high row f.stores (fields_at ir f)
     row_comes = record {
       fetched = fetched;
       row_is = row_at row f is;
@@ -140,7 +140,7 @@ module _ (m low high : ℕ) (good : TwelveAreGood low high) (core : List ℕ) (i
       inside = inside;
       p_inside = p_below;
       q_inside = q_below;
-      odd = λ odd. odd_wanted core ir (operands_at ir f) (uses_at ir low high) come (uses_odd (instr_at ir low high) _ (row_at row f is) odd);
+      odd = λ odd. odd_wanted core ir (fields_at ir f) (uses_at ir low high) come (uses_odd (instr_at ir low high) _ (row_at row f is) odd);
     }
 
   -- B
@@ -152,19 +152,19 @@ module _ (m low high : ℕ) (good : TwelveAreGood low high) (core : List ℕ) (i
     columns = b_columns (instr_at ir low high) _ there.row_is refl
 
     abbrev q_held : Fields → ℕ
-    q_held f = (operands_at ir f).q
+    q_held f = (fields_at ir f).q
 
     none_held : q_held b.f ≡ 0
     none_held = ap q_held (there.fields_are ∙ ap (λ (u : Uses). fields_used u b.f.stores (instr_at ir low high)) columns.0)
 
-    operands_of_b : operands_at ir b.f ≡ record { p = p; q = 0 }
+    operands_of_b : fields_at ir b.f ≡ record { p = p; q = 0 }
     operands_of_b = λ j. record { p = sym b.p_is j; q = none_held j }
 
     b_comes : ComesToB core ir low high p
     b_comes =
         subst (λ (c : ℕ). ComesToRow core ir low high (rows.Branch B c) Nothing (record { p = p; q = 0 })) (sym (ap code_in there.row_is))
         (subst (λ (o : Operands). ComesToRow core ir low high (rows.Branch B b.code) Nothing o) operands_of_b
-        (subst (λ (x : MayStore). ComesToRow core ir low high (rows.Branch B b.code) x (operands_at ir b.f)) columns.1 (row_comes (rows.Branch B b.code) b.f b.settled there)))
+        (subst (λ (x : MayStore). ComesToRow core ir low high (rows.Branch B b.code) x (fields_at ir b.f)) columns.1 (row_comes (rows.Branch B b.code) b.f b.settled there)))
 
   pub comes : (k : Known) → IsKnown (instr_at 0 low high) (size m) k → ComesTo core ir low high k
   comes (known.B p) is = record {

@@ -35,7 +35,7 @@ use Rattle.cpu_step.specs.State.{State}
 use Rattle.cpu_step.specs.Effects.{Effect, Cell, Light, Written, of_change, of_cards, of_keys, of_output, of_disk}
 use Rattle.field_moves.specs.Move.{move_of}
 use Rattle.feature_ops.specs.Feature.{feature_of}
-use Rattle.cpu_step.specs.Act.{show_result, operands, operands_of_branch, on_console, on_cards, on_disk, in_out, action, act}
+use Rattle.cpu_step.specs.Act.{show_result, operands, operands_tested, on_console, on_cards, on_disk, in_out, action, act}
 use Rattle.cpu_step.specs.Step.{instruction_trace, instruction}
 use Rattle.cpu_step.specs.Load.{state_for_load, load_trace}
 use Rattle.cpu_step.specs.Machine.{is_written}
@@ -121,7 +121,7 @@ action_own row.Compare o s = read_own (comparison s.core o.p o.q) show_result la
 action_own (row.Move op) o s = each_own Cell (λ d. tt) (move_of op s.core o.p o.q).effects
 action_own (row.Feature op) o s = each_own Cell (λ d. tt) (feature_of op s.core o.p o.q).effects
 action_own (row.InOut r) o s = unit_own r o.p s
-action_own (row.Branch op code) o s = each_own of_change change_own (branch_over op (operands_of_branch o code) s.core s.regs s.panel).effects
+action_own (row.Branch op code) o s = each_own of_change change_own (branch_over op (operands_tested o code) s.core s.regs s.panel).effects
 action_own row.Nop o s = All-nil IsOwn
 action_own row.H o s = All-nil IsOwn
 

@@ -53,7 +53,7 @@ use Rattle.cpu_step.specs.State.{State}
 use Rattle.cpu_step.specs.Effects.{Cell, Written, of_output, with_bytes, after}
 use Rattle.card_unit.specs.Punch.{punch_numeric, punch_alphameric, punch_dump}
 use Rattle.typewriter.specs.Typing.{control, write_numeric, write_alphameric, write_dump}
-use Rattle.cpu_step.specs.Act.{show_result, sum_action, comparison_action, move_action, typing_action, pair_typing_action, punch_action, pair_punch_action, on_console, on_cards, operands_of_branch, action}
+use Rattle.cpu_step.specs.Act.{show_result, sum_action, comparison_action, move_action, typing_action, pair_typing_action, punch_action, pair_punch_action, on_console, on_cards, operands_tested, action}
 use Rattle.cpu_step.specs.Stores.{KeepsOutside, down_below, stores_by}
 use Rattle.cpu_step.proofs.Parts.{after_cells, after_changes, after_shown, after_sum}
 use Rattle.cpu_step.proofs.FieldStores.{Sinks, move_sinks}
@@ -258,8 +258,8 @@ module _ (core : List ℕ) (r : Regs) (panel : Panel) where
 branch_row : (b : BranchOp) (code : ℕ) → RowKeeps (branch_column b) (row.Branch b code)
 unfolding action
 branch_row b code o s inside second odd =
-    let t : Trace Change Regs Stop = branch_over b (operands_of_branch o code) s.core s.regs s.panel in
-    subst (λ (new : List ℕ). KeepsOutside (stores_by (branch_column b) o) s.core new) (sym (ap (λ (x : State). x.core) (after_changes t.effects s))) (branch_keeps s.core s.regs s.panel b (operands_of_branch o code) o.q inside)
+    let t : Trace Change Regs Stop = branch_over b (operands_tested o code) s.core s.regs s.panel in
+    subst (λ (new : List ℕ). KeepsOutside (stores_by (branch_column b) o) s.core new) (sym (ap (λ (x : State). x.core) (after_changes t.effects s))) (branch_keeps s.core s.regs s.panel b (operands_tested o code) o.q inside)
 
 -- the column of the units' rows, and of each row
 abbrev unit_column : InOutRow → MayStore

@@ -28,7 +28,7 @@ use Rattle.branch_ops.specs.declared.fields.Operands.{Operands}
 use Rattle.cpu_step.specs.declared.rows.Found.{Found}
 use Rattle.branch_ops.specs.declared.fields.Fields.{Fields}
 use Rattle.cpu_step.specs.Rows.{instruction_row}
-use Rattle.branch_ops.specs.Fields.{operands_from, HoldOperands}
+use Rattle.branch_ops.specs.Fields.{fields_operands, HoldOperands}
 use Rattle.cpu_step.specs.State.{State}
 use Rattle.cpu_step.specs.Effects.{Effect, Cell, Light, Arm, Written, Sector, CardTaken, LineTaken, with_bytes, after}
 use Rattle.cpu_step.specs.Act.{Next, operands, act, act_with, act_over}
@@ -143,8 +143,8 @@ module _ (m : ℕ) (machine : Machine m) (w : World) (s : State) (shown : Shows 
   pub operands_act : (f : Found) (r : Result Operands Stop) → r ≡ operands f.uses machine.core machine.regs.ir → act f s ≡ act_with f.row r s
   operands_act f r is = ap (λ (x : State). act_with f.row (operands f.uses x.core x.regs.ir) s) shown.is ∙ ap (λ (x : Result Operands Stop). act_with f.row x s) (sym is)
 
-  pub fields_act : (row : Row) (x : Fields) (r : Result Operands Stop) → r ≡ operands_from x machine.core machine.regs.ir → act_over row x s ≡ act_with row r s
-  fields_act row x r is = ap (λ (y : State). act_with row (operands_from x y.core y.regs.ir) s) shown.is ∙ ap (λ (y : Result Operands Stop). act_with row y s) (sym is)
+  pub fields_act : (row : Row) (x : Fields) (r : Result Operands Stop) → r ≡ fields_operands x machine.core machine.regs.ir → act_over row x s ≡ act_with row r s
+  fields_act row x r is = ap (λ (y : State). act_with row (fields_operands x y.core y.regs.ir) s) shown.is ∙ ap (λ (y : Result Operands Stop). act_with row y s) (sym is)
 
   pub held_act : (f : Found) (x : Fields) → HoldOperands f.uses machine.core machine.regs.ir x → act f s ≡ act_over f.row x s
   held_act f x hold = operands_act f _ hold ∙ sym (fields_act f.row x _ refl)

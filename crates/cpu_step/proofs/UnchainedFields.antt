@@ -10,7 +10,7 @@ use Rattle.instruction_table.specs.declared.MayStore.{MayStore}
 use Rattle.branch_ops.specs.declared.fields.Uses.{Uses}
 use Rattle.branch_ops.specs.declared.fields.Uses.TheVariants.{Neither}
 use Rattle.branch_ops.specs.declared.fields.Operands.{Operands}
-use Rattle.branch_ops.specs.Fields.{part_number, kind_of, fields_used, operand_from, operands_from, number_or_own, is_chain, is_chained}
+use Rattle.branch_ops.specs.Fields.{part_number, kind_of, fields_used, field_operand, fields_operands, number_or_own, is_chain, is_chained}
 use Rattle.branch_ops.specs.declared.fields.FieldKind.{FieldKind}
 use Rattle.branch_ops.specs.declared.fields.FieldKind.TheVariants as kind
 use Rattle.branch_ops.specs.declared.fields.Fields.{Fields}
@@ -37,7 +37,7 @@ module _ (core : List ℕ) (ir n : ℕ) (long : length core ≡ n) where
   number_inside v a false test is = cc
 
   -- it is the field's number, or an immediate Q
-  comes_at : (k : FieldKind) (v a : ℕ) → is_chain k ≡ false → operand_from core ir k v ≡ Ok a → (other : List ℕ) (to : ℕ) → length other ≡ n → operand_from other to k v ≡ Ok (number_or_own to k v)
+  comes_at : (k : FieldKind) (v a : ℕ) → is_chain k ≡ false → field_operand core ir k v ≡ Ok a → (other : List ℕ) (to : ℕ) → length other ≡ n → field_operand other to k v ≡ Ok (number_or_own to k v)
   comes_at kind.Immediate v a plain is other to same = refl
   comes_at kind.Address v a plain is other to same =
       let below = number_inside v a (nat_lt v (length core)) refl is in
@@ -45,7 +45,7 @@ module _ (core : List ℕ) (ir n : ℕ) (long : length core ≡ n) where
       rw t refl
   comes_at k v a plain is other to same = cc
 
-  below_at : (k : FieldKind) (v a : ℕ) → is_chain k ≡ false → operand_from core ir k v ≡ Ok a → (to : ℕ) → to + 12 ≤ n → number_or_own to k v < n
+  below_at : (k : FieldKind) (v a : ℕ) → is_chain k ≡ false → field_operand core ir k v ≡ Ok a → (to : ℕ) → to + 12 ≤ n → number_or_own to k v < n
   below_at kind.Immediate v a plain is to inside = omega arith
   below_at kind.Address v a plain is to inside = number_inside v a (nat_lt v (length core)) refl is
   below_at k v a plain is to inside = cc
@@ -74,14 +74,14 @@ module _ (core : List ℕ) (ir n : ℕ) (long : length core ≡ n) (inside : ir 
   second : is_chain f.q_kind ≡ false
   second = (both_false (is_chain f.p_kind) (is_chain f.q_kind) plain).1
 
-  module _ (p : ℕ) (p_comes : operand_from core ir f.p_kind f.p ≡ Ok p) where
-    p_at : (other : List ℕ) (to : ℕ) → length other ≡ n → operand_from other to f.p_kind f.p ≡ Ok f.p
+  module _ (p : ℕ) (p_comes : field_operand core ir f.p_kind f.p ≡ Ok p) where
+    p_at : (other : List ℕ) (to : ℕ) → length other ≡ n → field_operand other to f.p_kind f.p ≡ Ok f.p
     p_at other to wide = comes_at core ir n long f.p_kind f.p p first p_comes other to wide ∙ ap Ok (number_at core ir n long f.p_kind f.p to none)
 
     p_same : p ≡ f.p
     p_same = let e = sym p_comes ∙ p_at core ir long in cc
 
-    settled_by : (q : ℕ) → operand_from core ir f.q_kind f.q ≡ Ok q → checked p q ≡ Ok o → AreSettled n f
+    settled_by : (q : ℕ) → field_operand core ir f.q_kind f.q ≡ Ok q → checked p q ≡ Ok o → AreSettled n f
     settled_by q q_comes is =
         let odd : (f.odd && f.p % 2 == 0) ≡ false = rw (← p_same) (not_even (f.odd && p % 2 == 0) p q is) in
         let same : number_or_own ir f.p_kind f.p ≡ f.p = number_at core ir n long f.p_kind f.p ir none in
@@ -91,16 +91,16 @@ module _ (core : List ℕ) (ir n : ℕ) (long : length core ≡ n) (inside : ir 
           q_below = λ to room. below_at core ir n long f.q_kind f.q q second q_comes to room;
         }
 
-    by_second : (r : Result ℕ Stop) → operand_from core ir f.q_kind f.q ≡ r → (r >>= (λ q. checked p q)) ≡ Ok o → AreSettled n f
+    by_second : (r : Result ℕ Stop) → field_operand core ir f.q_kind f.q ≡ r → (r >>= (λ q. checked p q)) ≡ Ok o → AreSettled n f
     by_second (Ok q) q_comes is = settled_by q q_comes is
     by_second (Err why) q_comes is = cc
 
-  by_first : (r : Result ℕ Stop) → operand_from core ir f.p_kind f.p ≡ r → (r >>= (λ p. operand_from core ir f.q_kind f.q >>= (λ q. checked p q))) ≡ Ok o → AreSettled n f
-  by_first (Ok p) p_comes is = by_second p p_comes (operand_from core ir f.q_kind f.q) refl is
+  by_first : (r : Result ℕ Stop) → field_operand core ir f.p_kind f.p ≡ r → (r >>= (λ p. field_operand core ir f.q_kind f.q >>= (λ q. checked p q))) ≡ Ok o → AreSettled n f
+  by_first (Ok p) p_comes is = by_second p p_comes (field_operand core ir f.q_kind f.q) refl is
   by_first (Err why) p_comes is = cc
 
-  pub settled : operands_from f core ir ≡ Ok o → AreSettled n f
-  settled is = by_first (operand_from core ir f.p_kind f.p) refl is
+  pub settled : fields_operands f core ir ≡ Ok o → AreSettled n f
+  settled is = by_first (field_operand core ir f.p_kind f.p) refl is
 
 -- operands that are the same have the same P
 pub same_first : (o other : Operands) → ◌≡◌ {A = Result Operands Stop} (Ok o) (Ok other) → o.p ≡ other.p

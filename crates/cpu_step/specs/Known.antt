@@ -19,7 +19,7 @@ use Rattle.cpu_step.specs.declared.memo.Known.{Known}
 use Rattle.cpu_step.specs.declared.memo.Known.TheVariants as known
 use Rattle.cpu_step.specs.Rows.{instruction_row, takes_odd}
 use Rattle.cpu_step.specs.Act.{operands}
-use Rattle.branch_ops.specs.Fields.{fields_used, operands_from, operands_at, HoldOperands}
+use Rattle.branch_ops.specs.Fields.{fields_used, fields_operands, fields_at, HoldOperands}
 
 -- the instruction that twelve cells are at ir, ten in one word and two in another
 abbrev pub instr_at : ℕ → ℕ → ℕ → Instr
@@ -35,9 +35,9 @@ pub record AreTwelve (m : ℕ) (core : List ℕ) (ir low high : ℕ) : Type 0 wh
 
 -- fields that come to operands in every core of n cells, wherever their instruction stands
 pub record AreSettled (n : ℕ) (f : Fields) : Type 0 where
-  pub works : (core : List ℕ) (ir : ℕ) → length core ≡ n → operands_from f core ir ≡ Ok (operands_at ir f)
+  pub works : (core : List ℕ) (ir : ℕ) → length core ≡ n → fields_operands f core ir ≡ Ok (fields_at ir f)
   pub p_below : f.p < n
-  pub q_below : (ir : ℕ) → ir + 12 ≤ n → (operands_at ir f).q < n
+  pub q_below : (ir : ℕ) → ir + 12 ≤ n → (fields_at ir f).q < n
 
 -- what an instruction is that has this row, and fields that tell what it may store
 abbrev pub found_with : Row → Uses → MayStore → Found
@@ -114,9 +114,9 @@ pub record ComesToChained (core : List ℕ) (ir low high : ℕ) (row : Row) (f :
 pub record ComesTo (core : List ℕ) (ir low high : ℕ) (k : Known) : Type 0 where
   pub to_b : (p : ℕ) → k ≡ known.B p → ComesToB core ir low high p
   pub to_row : (row : Row) (f : Fields) → k ≡ known.Row row f
-      → ComesToRow core ir low high row f.stores (operands_at ir f)
+      → ComesToRow core ir low high row f.stores (fields_at ir f)
   pub to_branch : (op : BranchOp) (f : Fields) (code : ℕ) → k ≡ known.Branch op f code
-      → ComesToRow core ir low high (row.Branch op code) f.stores (operands_at ir f)
+      → ComesToRow core ir low high (row.Branch op code) f.stores (fields_at ir f)
   pub to_chained : (row : Row) (f : Fields) → k ≡ known.Chained row f
       → ComesToChained core ir low high row f
 

@@ -2,7 +2,7 @@
 ghost use Rattle.std.specs.Prelude.{◌≡◌, ◌+◌, ◌*◌, ◌<◌, ◌≤◌, ◌%◌, length, IfOk, IfSome, Ok, true};
 ghost use Rattle.digit_core.specs.Size.{IsSize, size};
 ghost use Rattle.addr_indirect.specs.Operand.{further};
-ghost use Rattle.branch_ops.specs.Fields.{operand_from, operands_from};
+ghost use Rattle.branch_ops.specs.Fields.{field_operand, fields_operands};
 ghost use Rattle.cpu_step.specs.Further.{FieldIsKnown, LeadsTo};
 
 use crate::checks::five_digits;
@@ -156,7 +156,7 @@ impl<const M: u32> FurtherFields<M> {
         ir: u32,
     ) -> Result<Operands, Stop>
         requires { ir + 12 ≤ size M }
-        ensures from { result ≡ operands_from fields core.now ir }
+        ensures from { result ≡ fields_operands fields core.now ir }
         ensures p { IfOk result (λ o. o.p < size M) }
         ensures q { IfOk result (λ o. o.q < size M) }
         ensures odd { fields.odd ≡ true → IfOk result (λ o. o.p % 2 ≡ 1) }
@@ -174,7 +174,7 @@ impl<const M: u32> FurtherFields<M> {
     #[inline(always)]
     fn operand(&mut self, core: &Core<M>, ir: u32, kind: FieldKind, v: u32) -> Result<u32, Stop>
         requires { ir + 12 ≤ size M }
-        ensures is { result ≡ operand_from core.now ir kind v }
+        ensures is { result ≡ field_operand core.now ir kind v }
         ensures in_core { IfOk result (λ a. a < size M) }
     {
         core.size_law();

@@ -2,7 +2,7 @@
 ghost use Rattle.std.specs.Prelude.{ℕ, ◌≡◌, ◌+◌, ◌≤◌, ◌<◌, ◌%◌, ◌^◌, length, IfOk, false, true};
 ghost use Rattle.digit_core.specs.Size.{IsSize, size};
 ghost use Rattle.digit_core.specs.Packed.{six, ten_across};
-ghost use Rattle.branch_ops.specs.Fields.{is_chained, operands_from};
+ghost use Rattle.branch_ops.specs.Fields.{is_chained, fields_operands};
 ghost use Rattle.cpu_step.specs.Known.{AreKnown, IsKnown, IsPlace, IsRow, two_from};
 
 use crate::further::FurtherFields;
@@ -180,7 +180,7 @@ impl<const M: u32> Memo<M> {
         ir: u32,
     ) -> Result<Operands, Stop>
         requires { ir + 12 ≤ size M }
-        ensures from { result ≡ operands_from fields core.now ir }
+        ensures from { result ≡ fields_operands fields core.now ir }
         ensures p { IfOk result (λ o. o.p < size M) }
         ensures q { IfOk result (λ o. o.q < size M) }
         ensures odd { fields.odd ≡ true → IfOk result (λ o. o.p % 2 ≡ 1) }

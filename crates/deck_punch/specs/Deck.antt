@@ -18,5 +18,5 @@ abbrev pub deck : List DigitRun → ℕ → List (List ℕ)
 deck image start = cards_of (with_tables image) ++ transfer_card start ∷ []
 
 -- how many steps a deck of so many cards takes: four for each card but the transfer card, and one for that
-abbrev pub deck_steps : ℕ → ℕ
-deck_steps cards = 4 * (cards - 1) + 1
+abbrev pub self_loading_steps : ℕ → ℕ
+self_loading_steps cards = 4 * (cards - 1) + 1

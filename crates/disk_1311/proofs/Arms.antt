@@ -7,7 +7,7 @@ use Rattle.addr_indirect.specs.declared.Stop.TheVariants.{Address}
 use Rattle.addr_indirect.specs.Reading.{read_up}
 use Rattle.traces.specs.Trace.{Trace, ends, does, ◌>>=◌, after_answer}
 use Rattle.traces.specs.Change.{Change, Stores, Lights}
-use Rattle.outside_io.specs.World.{sector_text}
+use Rattle.outside_io.specs.World.{pack_sector_text}
 use Rattle.disk_1311.specs.declared.control.Control.{Control}
 use Rattle.disk_1311.specs.Control.{control_field}
 use Rattle.disk_1311.specs.Sector.{DiskEffect, Alters, Moves, Records, core_left, alarm_first, read_sector, compare_sector}
@@ -89,9 +89,9 @@ unfolding move_sectors
 sectors_still t zero core a sector = check_still t.kind core a
 sectors_still t (suc left) core a sector =
     let h = host_sector t.drive sector in
-    let one = move_sector t.kind core a h (sector_text t.sectors h) in
+    let one = move_sector t.kind core a h (pack_sector_text t.sectors h) in
     choice_still (cylinder_of sector == t.cylinder) (nat_lt (a + 99) (length core)) _ _
-    (after_still one.effects one.answer (move_sectors t (core_left core one.effects) (a + 100) (sector + 1) left) (move_still t.kind core a h (sector_text t.sectors h)) (sectors_still t left (core_left core one.effects) (a + 100) (sector + 1)))
+    (after_still one.effects one.answer (move_sectors t (core_left core one.effects) (a + 100) (sector + 1) left) (move_still t.kind core a h (pack_sector_text t.sectors h)) (sectors_still t left (core_left core one.effects) (a + 100) (sector + 1)))
     (check_still t.kind core a)
 
 -- what follows the control field

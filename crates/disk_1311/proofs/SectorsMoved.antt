@@ -5,7 +5,7 @@ use Rattle.digit_core.specs.declared.Digit.{Digit}
 use Rattle.digit_core.specs.Cell.{store}
 use Rattle.indicators.specs.declared.Panel.{Panel}
 use Rattle.indicators.specs.Panel.{set}
-use Rattle.outside_io.specs.World.{World, Seen, Goes, GetsSector, zero_character, sector_text, with_sector_written}
+use Rattle.outside_io.specs.World.{World, Seen, Goes, GetsSector, zero_character, pack_sector_text, with_sector_written}
 use Rattle.outside_io.specs.declared.host.TheConstants.{SECTOR_LENGTH}
 use Rattle.outside_io.specs.Frame.{Tells}
 use Rattle.addr_indirect.specs.declared.Stop.{Stop}
@@ -48,14 +48,14 @@ world_stays w cs = ap (λ (o : Option (ℕ → List ℕ)). record w { sectors = 
 record Text (o : Option (ℕ → List ℕ)) (a : ℕ) : Type 0 where
   given : List ℕ
   whole : SECTOR_LENGTH ≤ length given
-  told : Tells (option_map (λ sectors. sector_text sectors a) o) given
+  told : Tells (option_map (λ sectors. pack_sector_text sectors a) o) given
 
 a_text : (o : Option (ℕ → List ℕ)) (a : ℕ) → Text o a
 a_text None a = record { given = replicate 100 zero_character; whole = omega arith; told = tt }
-a_text (Some sectors) a = record { given = sector_text sectors a; whole = filled_text 100 (sectors a); told = refl }
+a_text (Some sectors) a = record { given = pack_sector_text sectors a; whole = filled_text 100 (sectors a); told = refl }
 
 -- a sector's text is the told one where the sectors are told
-told_sector : (o : Option (ℕ → List ℕ)) (a : ℕ) (bytes : List ℕ) → IfSome o (λ sectors. bytes ≡ sector_text sectors a) → Tells (option_map (λ sectors. sector_text sectors a) o) bytes
+told_sector : (o : Option (ℕ → List ℕ)) (a : ℕ) (bytes : List ℕ) → IfSome o (λ sectors. bytes ≡ pack_sector_text sectors a) → Tells (option_map (λ sectors. pack_sector_text sectors a) o) bytes
 told_sector None a bytes are = tt
 told_sector (Some sectors) a bytes are = sym are
 

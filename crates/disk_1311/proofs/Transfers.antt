@@ -6,7 +6,7 @@ use Rattle.std.specs.Prelude.{Option, Some, None, option_map, unwrap_or, if◌th
 use Rattle.digit_core.specs.declared.Digit.{Digit}
 use Rattle.indicators.specs.declared.Panel.{Panel}
 use Rattle.indicators.specs.Panel.{set}
-use Rattle.outside_io.specs.World.{World, Seen, sector_text, with_sector}
+use Rattle.outside_io.specs.World.{World, Seen, pack_sector_text, with_sector}
 use Rattle.outside_io.specs.declared.host.TheConstants.{SECTOR_LENGTH}
 use Rattle.outside_io.specs.Frame.{Tells}
 use Rattle.addr_indirect.specs.declared.Stop.{Stop}
@@ -45,11 +45,11 @@ behind Wdn core a h bytes s k below = behind_written h k s (read_up core a 100) 
 record Together (o : Option (ℕ → List ℕ)) (h : ℕ) (bytes : List ℕ) (rest : ℕ → List ℕ) : Type 0 where
   given : ℕ → List ℕ
   told : Tells o given
-  here : sector_text given h ≡ bytes
+  here : pack_sector_text given h ≡ bytes
   ahead : (k : ℕ) → h < k → given k ≡ rest k
 
 together : (o : Option (ℕ → List ℕ)) (h : ℕ) (bytes : List ℕ) (es : List DiskEffect) (rest : ℕ → List ℕ)
-    → ((s : ℕ → List ℕ) (k : ℕ) → h < k → sectors_left s es k ≡ s k) → SECTOR_LENGTH ≤ length bytes → Tells (option_map (λ sectors. sector_text sectors h) o) bytes → Tells (option_map (λ sectors. sectors_left sectors es) o) rest → Together o h bytes rest
+    → ((s : ℕ → List ℕ) (k : ℕ) → h < k → sectors_left s es k ≡ s k) → SECTOR_LENGTH ≤ length bytes → Tells (option_map (λ sectors. pack_sector_text sectors h) o) bytes → Tells (option_map (λ sectors. sectors_left sectors es) o) rest → Together o h bytes rest
 together None h bytes es rest stay whole here told = record {
   given = with_sector h bytes rest;
   told = tt;
@@ -74,7 +74,7 @@ module _ (kind : DiskKind) (drive cylinder : ℕ) where
   same_ahead zero core a sector g h same = refl
   same_ahead (suc left) core a sector g h same =
       let here : g (host_sector drive sector) ≡ h (host_sector drive sector) = same (host_sector drive sector) (omega arith) in
-      let moved = move_sector kind core a (host_sector drive sector) (sector_text h (host_sector drive sector)) in
+      let moved = move_sector kind core a (host_sector drive sector) (pack_sector_text h (host_sector drive sector)) in
       rw here
       (ap (λ (t : Trace DiskEffect ⊤ Stop). if cylinder_of sector == cylinder then (if nat_lt (a + 99) (length core) then after_answer moved.effects moved.answer (λ _. t) else ends (Err Address)) else alarm_first CYLINDER_OVERFLOW (group_check kind core a))
       (same_ahead left (core_left core moved.effects) (a + 100) (sector + 1) g h (λ k below. same k (omega arith))))
@@ -101,7 +101,7 @@ module _ (kind : DiskKind) (drive cylinder : ℕ) where
 
       module _ (room : a + 99 < length core) where
         -- one sector moves
-        moves_first : (g : ℕ → List ℕ) (t : Trace DiskEffect ⊤ Stop) → move_sector kind core a here (sector_text g here) ≡ t
+        moves_first : (g : ℕ → List ℕ) (t : Trace DiskEffect ⊤ Stop) → move_sector kind core a here (pack_sector_text g here) ≡ t
             → left_to_move core a sector (suc left) g ≡ after_answer t.effects t.answer (λ _. left_to_move (core_left core t.effects) (a + 100) (sector + 1) left g)
         unfolding move_sectors
         moves_first g t is = let within : nat_lt (a + 99) (length core) ≡ true = grind (arith, nat_tests) in rw (same, within, is)

@@ -3,7 +3,7 @@
 use Rattle.std.specs.Prelude.{ℕ, zero, suc, Bool, true, false, ◌+◌, ◌-◌, ◌*◌, ◌/◌, ◌==◌, ◌&&◌, nat_lt, List, length, slice_index_or, if◌then◌else◌, Ok, Err, ⊤}
 use Rattle.digit_core.specs.declared.Digit.{Digit}
 use Rattle.digit_core.specs.declared.TheConstants.{GROUP_MARK}
-use Rattle.outside_io.specs.World.{sector_text}
+use Rattle.outside_io.specs.World.{pack_sector_text}
 use Rattle.addr_indirect.specs.declared.Stop.{Stop}
 use Rattle.addr_indirect.specs.declared.Stop.TheVariants.{Address}
 use Rattle.addr_indirect.specs.Reading.{read_at}
@@ -79,7 +79,7 @@ up_to a core t = if nat_lt a (length core) then t else ends (Err Address)
 -- one sector of a transfer moves, at a
 abbrev pub move_one : Transfer → List ℕ → ℕ → ℕ → Trace DiskEffect ⊤ Stop
 move_one t core a sector =
-    move_sector t.kind core a (host_sector t.drive sector) (sector_text t.sectors (host_sector t.drive sector))
+    move_sector t.kind core a (host_sector t.drive sector) (pack_sector_text t.sectors (host_sector t.drive sector))
 
 -- so many sectors move, one after another; 38 goes on, and the moving ends, at another cylinder
 unfoldable pub move_sectors : Transfer → List ℕ → ℕ → ℕ → ℕ → Trace DiskEffect ⊤ Stop

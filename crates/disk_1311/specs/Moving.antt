@@ -1,6 +1,6 @@
 -- What the parts of a transfer do.
 use Rattle.std.specs.Prelude.{ℕ, ◌≡◌, ◌≤◌, List, [], length, Result, Ok, Err, option_map, ⊤}
-use Rattle.outside_io.specs.{Rose, sector_text, Tells}
+use Rattle.outside_io.specs.{Rose, pack_sector_text, Tells}
 use Rattle.outside_io.specs.declared.host.TheConstants.{SECTOR_LENGTH}
 use Rattle.indicators.specs.declared.Panel.{Panel}
 use Rattle.addr_indirect.specs.declared.Stop.{Stop}
@@ -20,7 +20,7 @@ pub record MovedSector (t : List ℕ → Trace DiskEffect ⊤ Stop) (sector : �
     (r : Result ⊤ Stop) : Type 0 where
   pub given : List ℕ
   pub whole : SECTOR_LENGTH ≤ length given
-  pub told : Tells (option_map (λ sectors. sector_text sectors sector) old.seen.world.sectors) given
+  pub told : Tells (option_map (λ sectors. pack_sector_text sectors sector) old.seen.world.sectors) given
   pub answers : (t given).answer ≡ r
   pub all : DoneBetween (t given).effects old new
 

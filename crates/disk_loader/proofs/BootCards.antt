@@ -8,7 +8,7 @@ use Rattle.card_code.specs.declared.Card.{Card}
 use Rattle.sps_pass_two.specs.Image.{DigitRun}
 use Rattle.sps_pass_two.specs.Kept.{IsPiece, lowest_declared}
 use Rattle.deck_punch.specs.Cards.{transfer_card}
-use Rattle.deck_punch.specs.Deck.{deck_steps}
+use Rattle.deck_punch.specs.Deck.{self_loading_steps}
 use Rattle.card_columns.specs.Types.{card_bytes}
 use Rattle.disk_loader.specs.declared.deck.Stretch.{Stretch}
 use Rattle.disk_loader.specs.Hundreds.{is_needed}
@@ -189,12 +189,12 @@ lowest_all : (image : List DigitRun) → All (λ r. lowest_declared ≤ r.from) 
 lowest_all image above k e l = let low : lowest_declared ≤ (get_or image k e).from = above k e l in omega arith
 
 -- cards of the deck's texts load the image
-pub deck_if_loads : (cards : List Card) (image : List DigitRun) (start : ℕ) → All IsPiece image → All (λ r. lowest_declared ≤ r.from) image → map card_bytes cards ≡ bootstrap image start → DiskLoads (map card_bytes cards) image start (deck_steps (length cards))
+pub deck_if_loads : (cards : List Card) (image : List DigitRun) (start : ℕ) → All IsPiece image → All (λ r. lowest_declared ≤ r.from) image → map card_bytes cards ≡ bootstrap image start → DiskLoads (map card_bytes cards) image start (self_loading_steps (length cards))
 deck_if_loads cards image start each above is =
     let l : length (map card_bytes cards) ≡ length cards = length-map cards card_bytes in
     let n : length cards ≡ length (bootstrap image start) = sym l ∙ ap length is in
-    subst (λ (n : ℕ). DiskLoads (map card_bytes cards) image start (deck_steps n)) (sym n)
-    (subst (λ (texts : List (List ℕ)). DiskLoads texts image start (deck_steps (length (bootstrap image start)))) (sym is) (disk_loads image start each (lowest_all image above)))
+    subst (λ (n : ℕ). DiskLoads (map card_bytes cards) image start (self_loading_steps n)) (sym n)
+    (subst (λ (texts : List (List ℕ)). DiskLoads texts image start (self_loading_steps (length (bootstrap image start)))) (sym is) (disk_loads image start each (lowest_all image above)))
 
 -- how many cards there are at most
 

@@ -20,7 +20,7 @@ use Rattle.cpu_step.specs.Load.{state_for_load, load_key}
 use Rattle.sps_pass_two.specs.Image.{DigitRun}
 use Rattle.sps_pass_two.specs.Kept.{IsPiece, IsRunBelow}
 use Rattle.deck_punch.specs.Cards.{transfer_card, transfer_digits}
-use Rattle.deck_punch.specs.Deck.{deck_steps}
+use Rattle.deck_punch.specs.Deck.{self_loading_steps}
 use Rattle.card_steps.specs.Steps.{after_steps}
 use Rattle.card_steps.proofs.Leading.{deck_takes}
 use Rattle.card_steps.proofs.CardDigits.{laid, laid_length, laid_there, laid_elsewhere, ReadsCard, card_read}
@@ -143,7 +143,7 @@ module _ (image : List DigitRun) (start m : ℕ) (s : State) (rest : List Entry)
   arms_are : arms_after s.arms ss ≡ slice_set s.arms 0 (last_cylinder 0 (stretches image))
   arms_are = arm_stands image s.arms (has 1)
 
-  steps_are : deck_steps (length (bootstrap image start)) ≡ 4 * length ss + 1
+  steps_are : self_loading_steps (length (bootstrap image start)) ≡ 4 * length ss + 1
   steps_are =
       let a = length-append (map stretch_card ss) (transfer_card start ∷ []) in
       let b : length (map stretch_card ss) ≡ length ss = length-map ss stretch_card in
@@ -156,15 +156,15 @@ module _ (image : List DigitRun) (start m : ℕ) (s : State) (rest : List Entry)
   steps_made : after_steps (4 * length ss + 1) s0 ≡ loaded_state
   steps_made = ends.leads.there ∙ (λ i. record s { core = core_is i; regs = on_at s.regs start; panel = set LAST_CARD (has_none_left rest) (panel_for_load s.panel); hopper = rest; mode = Running; arms = arms_are i })
 
-  leads_there : after_steps (deck_steps (length (bootstrap image start))) (load_key s) ≡ loaded_state
-  leads_there = ap (after_steps (deck_steps (length (bootstrap image start)))) key_pressed ∙ ap (λ (n : ℕ). after_steps n s0) steps_are ∙ steps_made
+  leads_there : after_steps (self_loading_steps (length (bootstrap image start))) (load_key s) ≡ loaded_state
+  leads_there = ap (after_steps (self_loading_steps (length (bootstrap image start)))) key_pressed ∙ ap (λ (n : ℕ). after_steps n s0) steps_are ∙ steps_made
 
   is_entered : loaded_state ≡ state_from_disk (load_key s) image start s.core rest
   is_entered =
       (λ i. record s { core = disk_overlay s.core image start; regs = on_at s.regs start; panel = sym (lamp_twice (panel_for_load s.panel) (has_none_left rest) (has_none_left later)) i; hopper = rest; mode = Running; arms = slice_set s.arms 0 (last_cylinder 0 (stretches image)) })
       ∙ ap (λ (x : State). state_from_disk x image start s.core rest) (sym key_pressed)
 
-  loads_over : DiskLoadsOver (bootstrap image start) image start (deck_steps (length (bootstrap image start))) s rest
+  loads_over : DiskLoadsOver (bootstrap image start) image start (self_loading_steps (length (bootstrap image start))) s rest
   loads_over = record {
     running = λ n h. ap (λ (x : State). (after_steps n x).mode) key_pressed ∙ ends.leads.running n (omega (arith, steps_are));
     loaded = leads_there ∙ is_entered;
@@ -172,12 +172,12 @@ module _ (image : List DigitRun) (start m : ℕ) (s : State) (rest : List Entry)
   }
 
 -- for each image of good digits that stand from 00100 on, and each start
-pub disk_loads : (image : List DigitRun) (start : ℕ) → All IsPiece image → All IsLowest image → DiskLoads (bootstrap image start) image start (deck_steps (length (bootstrap image start)))
+pub disk_loads : (image : List DigitRun) (start : ℕ) → All IsPiece image → All IsLowest image → DiskLoads (bootstrap image start) image start (self_loading_steps (length (bootstrap image start)))
 disk_loads image start each lowest m s rest sized long armed under below_end sectors hopper = loads_over image start m s rest sized long armed each lowest under below_end sectors hopper
 
 -- the state that the deck leaves
 pub disk_loaded_from : (image : List DigitRun) (start m : ℕ) (s : State) (rest : List Entry) → All IsPiece image → All IsLowest image → IsSize m → length s.core ≡ size m → length s.arms ≡ DRIVES → All (IsRunBelow (size m)) image → start < size m → HasSectors image s.sectors
     → s.hopper ≡ map Text (bootstrap image start) ++ rest
-    → after_steps (deck_steps (length (bootstrap image start))) (load_key s)
+    → after_steps (self_loading_steps (length (bootstrap image start))) (load_key s)
     ≡ record s { core = disk_overlay s.core image start; regs = on_at s.regs start; panel = set LAST_CARD (has_none_left rest) (panel_for_load s.panel); hopper = rest; mode = Running; arms = slice_set s.arms 0 (last_cylinder 0 (stretches image)) }
 disk_loaded_from image start m s rest each lowest sized long armed under below_end sectors hopper = leads_there image start m s rest sized long armed each lowest under below_end sectors hopper

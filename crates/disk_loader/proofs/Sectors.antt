@@ -4,7 +4,7 @@ use Rattle.std.proofs.lemmas.Bool.Decides.{nat_tests}
 use Rattle.std.specs.Prelude.{⊤}
 use Rattle.digit_core.specs.declared.Digit.{Digit}
 use Rattle.digit_core.specs.Cell.{store}
-use Rattle.outside_io.specs.World.{sector_text}
+use Rattle.outside_io.specs.World.{pack_sector_text}
 use Rattle.addr_indirect.specs.declared.Stop.{Stop}
 use Rattle.traces.specs.Trace.{Trace}
 use Rattle.traces.specs.Change.{Stores}
@@ -70,7 +70,7 @@ joined digits sector (suc n) = digits sector ++ joined digits (sector + 1) n
 -- the sectors of a transfer are the texts of such digits, and stand on its cylinder
 pub record AreTexts (drive cylinder : ℕ) (sectors : ℕ → List ℕ) (digits : ℕ → List Digit) (sector : ℕ) : Type 0 where
   pub here : cylinder_of sector ≡ cylinder
-  pub text : sector_text sectors (host_sector drive sector) ≡ map object_char (digits sector)
+  pub text : pack_sector_text sectors (host_sector drive sector) ≡ map object_char (digits sector)
   pub good : Good (digits sector)
   pub whole : length (digits sector) ≡ 100
 

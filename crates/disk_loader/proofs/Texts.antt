@@ -15,7 +15,7 @@ use Rattle.sps_pass_two.specs.Types.{run_of}
 use Rattle.sps_pass_two.specs.Image.{DigitRun, digit_at, declared_digit, or_else}
 use Rattle.card_columns.specs.Orders.{nth}
 use Rattle.deck_punch.proofs.Declaring.{below, above, within, declared_joined}
-use Rattle.disk_loader.specs.Hundreds.{char_over, digit_or, digit_beneath, digit_on_disk, hundred_text, holds_tables, holds_declared, is_needed, reaches, needed_sector}
+use Rattle.disk_loader.specs.Hundreds.{char_over, digit_or, digit_beneath, digit_on_disk, hundred_text, holds_tables, holds_declared, is_needed, reaches, sector_text}
 
 -- WHAT STANDS BENEATH
 
@@ -202,16 +202,16 @@ pieces_on pieces i piece more is =
 pub pieces_all : (pieces : List Piece) (i : ℕ) (image : List DigitRun) → length pieces ≤ i → map run_of pieces ≡ image → map run_of (take i pieces) ≡ image
 pieces_all pieces i image past are = ap (map run_of) (take_all i pieces past) ∙ are
 
-sector_of : (image : List DigitRun) (h : ℕ) (b : Bool) → is_needed image h ≡ b → needed_sector image h ≡ (if b then Some (hundred_text image h) else None)
+sector_of : (image : List DigitRun) (h : ℕ) (b : Bool) → is_needed image h ≡ b → sector_text image h ≡ (if b then Some (hundred_text image h) else None)
 sector_of image h b is = rw is refl
 
 -- all pieces are laid: the hundred is needed, or not
-pub some_in : (gs image : List DigitRun) (h : ℕ) (text : List ℕ) {b : Bool} → gs ≡ image → HasText gs (100 * h) text → b ≡ is_needed gs h → b ≡ true → Some text ≡ needed_sector image h
+pub some_in : (gs image : List DigitRun) (h : ℕ) (text : List ℕ) {b : Bool} → gs ≡ image → HasText gs (100 * h) text → b ≡ is_needed gs h → b ≡ true → Some text ≡ sector_text image h
 some_in gs image h text {b} are has need is =
     let n : is_needed image h ≡ true = ap (λ (g : List DigitRun). is_needed g h) (sym are) ∙ sym need ∙ is in
     ap (λ (t : List ℕ). Some t) (text_all gs h text has ∙ ap (λ (g : List DigitRun). hundred_text g h) are) ∙ sym (sector_of image h true n)
 
-pub none_in : (gs image : List DigitRun) (h : ℕ) {b : Bool} → gs ≡ image → b ≡ is_needed gs h → b ≡ false → None ≡ needed_sector image h
+pub none_in : (gs image : List DigitRun) (h : ℕ) {b : Bool} → gs ≡ image → b ≡ is_needed gs h → b ≡ false → None ≡ sector_text image h
 none_in gs image h {b} are need is =
     let n : is_needed image h ≡ false = ap (λ (g : List DigitRun). is_needed g h) (sym are) ∙ sym need ∙ is in
     sym (sector_of image h false n)
@@ -233,10 +233,10 @@ told_none : (image : List DigitRun) (h : ℕ) (b : Bool) → (if b then Some (hu
 told_none image h true e = absurd (cc)
 told_none image h false e = refl
 
-pub in_some : (image : List DigitRun) (h : ℕ) (text : List ℕ) → needed_sector image h ≡ Some text → (is_needed image h ≡ true) × (text ≡ hundred_text image h)
+pub in_some : (image : List DigitRun) (h : ℕ) (text : List ℕ) → sector_text image h ≡ Some text → (is_needed image h ≡ true) × (text ≡ hundred_text image h)
 in_some image h text e = told_some image h text (is_needed image h) e
 
-pub in_none : (image : List DigitRun) (h : ℕ) → needed_sector image h ≡ None → is_needed image h ≡ false
+pub in_none : (image : List DigitRun) (h : ℕ) → sector_text image h ≡ None → is_needed image h ≡ false
 in_none image h e = told_none image h (is_needed image h) e
 
 -- the pieces reach the hundred with this one, or as they did before
@@ -253,5 +253,5 @@ some_by image h true = refl
 some_by image h false = refl
 
 -- a hundred's sector has a text where the hundred is needed
-pub some_told : (image : List DigitRun) (h : ℕ) → is_some (needed_sector image h) ≡ is_needed image h
+pub some_told : (image : List DigitRun) (h : ℕ) → is_some (sector_text image h) ≡ is_needed image h
 some_told image h = some_by image h (is_needed image h)

@@ -2,7 +2,7 @@
 use Rattle.std.specs.Prelude.{ℕ, ◌≡◌, List, length, map}
 use Rattle.card_code.specs.declared.Card.{Card}
 use Rattle.sps_pass_two.specs.declared.assembled.Assembled.{Assembled}
-use Rattle.deck_punch.specs.Deck.{deck_steps}
+use Rattle.deck_punch.specs.Deck.{self_loading_steps}
 use Rattle.card_columns.specs.Types.{card_bytes}
 use Rattle.disk_loader.specs.Bootstrap.{bootstrap}
 use Rattle.disk_loader.specs.DiskLoads.{DiskLoads}
@@ -13,7 +13,7 @@ AreBootstrapOf program cards = map card_bytes cards ≡ bootstrap program.image.
 
 -- how many steps a deck of so many cards takes: four for each card but the last, and one for that
 abbrev pub boot_steps : ℕ → ℕ
-boot_steps cards = deck_steps cards
+boot_steps cards = self_loading_steps cards
 
 -- the cards load the program's image from its sectors and enter its start, in so many steps
 abbrev pub LoadFromDisk : Assembled → List Card → Type 0

@@ -2,7 +2,7 @@
 use Rattle.std.specs.Prelude.{ℕ, true, ◌≡◌, ◌<◌, ◌≤◌, List, [], ◌∷◌, ◌++◌, length, map, slice_set}
 use Rattle.std.specs.List.{All}
 use Rattle.digit_core.specs.Size.{IsSize, size}
-use Rattle.outside_io.specs.World.{sector_text}
+use Rattle.outside_io.specs.World.{pack_sector_text}
 use Rattle.indicators.specs.Panel.{set}
 use Rattle.indicators.specs.declared.codes.TheConstants.{LAST_CARD}
 use Rattle.branch_ops.specs.Registers.{on_at}
@@ -22,7 +22,7 @@ use Rattle.disk_loader.specs.DiskOverlay.{disk_overlay}
 
 -- drive 1 has the sectors of the needed hundreds
 abbrev pub HasSectors : List DigitRun → (ℕ → List ℕ) → Type 0
-HasSectors image sectors = (h : ℕ) → h < HUNDREDS → is_needed image h ≡ true → sector_text sectors (host_sector 1 h) ≡ hundred_text image h
+HasSectors image sectors = (h : ℕ) → h < HUNDREDS → is_needed image h ≡ true → pack_sector_text sectors (host_sector 1 h) ≡ hundred_text image h
 
 -- the cylinder of the last of some stretches; of none, another
 abbrev pub last_cylinder : ℕ → List Stretch → ℕ

@@ -53,5 +53,5 @@ char_over (Some d) other = object_char d
 char_over None other = other
 
 -- the text of a hundred's sector, where the hundred is needed
-abbrev pub needed_sector : List DigitRun → ℕ → Option (List ℕ)
-needed_sector image h = if is_needed image h then Some (hundred_text image h) else None
+abbrev pub sector_text : List DigitRun → ℕ → Option (List ℕ)
+sector_text image h = if is_needed image h then Some (hundred_text image h) else None

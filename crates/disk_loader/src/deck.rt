@@ -4,7 +4,7 @@ ghost use Rattle.std.specs.Prelude.{◌≡◌, ◌+◌, ◌<◌, ◌≤◌, ◌+
 ghost use Rattle.digit_core.specs.{unflagged_digit};
 ghost use Rattle.card_code.specs.Characters.{object_char};
 ghost use Rattle.card_columns.specs.declared.columns.TheConstants.{CARD_COLUMNS};
-ghost use Rattle.deck_punch.specs.Deck.{deck_steps};
+ghost use Rattle.deck_punch.specs.Deck.{self_loading_steps};
 ghost use Rattle.card_columns.specs.Types.{card_bytes};
 ghost use Rattle.disk_loader.specs.Bootstrap.{stretch_card, closed_cards};
 ghost use Rattle.disk_loader.specs.BootstrapDeck.{AreBootstrapOf, LoadFromDisk};

@@ -7,7 +7,7 @@ ghost use Rattle.sps_pass_two.specs.Image.{digit_at};
 ghost use Rattle.sps_pass_two.specs.Kept.{IsPiece, IsRunBelow};
 ghost use Rattle.sps_pass_two.specs.Types.{run_of};
 ghost use Rattle.digit_core.specs.declared.TheConstants.{MOST_POSITIONS};
-ghost use Rattle.disk_loader.specs.Hundreds.{char_over, digit_beneath, holds_tables, is_needed, reaches, needed_sector};
+ghost use Rattle.disk_loader.specs.Hundreds.{char_over, digit_beneath, holds_tables, is_needed, reaches, sector_text};
 
 use card_code::object_char;
 use digit_core::{Digit, standard_digit};
@@ -23,7 +23,7 @@ pub(crate) const HUNDREDS: u32 = 600;
 /// Source: this project's own.
 pub fn sector_text(assembled: &Assembled, h: u32) -> Option<[u8; 100]>
     requires { h < HUNDREDS }
-    ensures { result ≡ needed_sector assembled.now.image.pieces h }
+    ensures { result ≡ sector_text assembled.now.image.pieces h }
 {
     let from = 100 * h;
     let mut text = beneath(from);

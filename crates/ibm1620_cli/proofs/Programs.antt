@@ -17,7 +17,7 @@ use Rattle.operator_script.specs.declared.script.Script.{Script}
 use Rattle.operator_script.specs.declared.script.ScriptLine.{ScriptLine}
 use Rattle.operator_script.specs.Scripts.{lines_left}
 use Rattle.deck_punch.specs.declared.form.DeckForm.{DeckForm}
-use Rattle.loader_cards.specs.ObjectDeck.{steps_in}
+use Rattle.loader_cards.specs.ObjectDeck.{deck_steps}
 use Rattle.card_columns.specs.Types.{card_bytes}
 use Rattle.command_line.specs.declared.reading.Settings.{Settings}
 use Rattle.ibm1620_cli.specs.declared.answer.Answer.{Answer}
@@ -88,8 +88,8 @@ module _ (p : Program) (fits : Fits p) where
 
 pub keeps_program_promise : (m : ℕ) (settings : Settings) (steps : ℕ) (cards : List Card) (hopper : Hopper) (script : Script) (start new : Seen) (answer : Answer) → ((w : World) → hopper_left hopper w ≡ cards_and_data (map card_bytes cards) w)
     → ((w : World) → deck_left hopper w ≡ Some (map Text (map card_bytes cards))) → own_cards hopper ≡ Some (map card_bytes cards)
-    → IsNewHopper hopper → steps ≡ steps_in settings.form (length cards) → Executes m steps settings.limit hopper script start new answer → KeepsProgramPromise m settings (map card_bytes cards) (lines_left script) start new answer
+    → IsNewHopper hopper → steps ≡ deck_steps settings.form (length cards) → Executes m steps settings.limit hopper script start new answer → KeepsProgramPromise m settings (map card_bytes cards) (lines_left script) start new answer
 keeps_program_promise m settings steps cards hopper script start new answer holds deck own begins steps_are executes p fits sized same is =
     promise_program p fits settings.limit hopper script start new answer (λ w. holds w ∙ ap (λ (texts : List (List ℕ)). cards_and_data texts w) is) (λ w. deck w ∙ ap (λ (texts : List (List ℕ)). Some (map Text texts)) is) (own ∙ ap (λ (texts : List (List ℕ)). Some texts) is) begins
-    (subst (λ (n : ℕ). Executes p.modules n settings.limit hopper script start new answer) (steps_are ∙ ap (steps_in settings.form) (sym (length-map cards card_bytes) ∙ ap length is) ∙ ap (λ (f : DeckForm). steps_in f (length (deck_of p))) (sym same))
+    (subst (λ (n : ℕ). Executes p.modules n settings.limit hopper script start new answer) (steps_are ∙ ap (deck_steps settings.form) (sym (length-map cards card_bytes) ∙ ap length is) ∙ ap (λ (f : DeckForm). deck_steps f (length (deck_of p))) (sym same))
     (subst (λ (k : ℕ). Executes k steps settings.limit hopper script start new answer) (sym sized) executes))

@@ -17,7 +17,7 @@ use Rattle.operator_script.specs.declared.script.ScriptLine.{ScriptLine}
 use Rattle.operator_script.specs.Turn.{RunPlace}
 use Rattle.sps_pass_two.specs.{DigitRun, IsPiece, IsRunBelow, lowest_declared}
 use Rattle.deck_punch.specs.declared.form.DeckForm.{DeckForm}
-use Rattle.loader_cards.specs.ObjectDeck.{deck_in, steps_in}
+use Rattle.loader_cards.specs.ObjectDeck.{deck_in, deck_steps}
 use Rattle.deck_punch.specs.Overlay.{overlay}
 use Rattle.loader_cards.specs.Loads.{Loads}
 use Rattle.card_steps.specs.Steps.{after_steps, deck_taken}
@@ -48,7 +48,7 @@ deck_of p = deck_in p.form p.image p.start
 
 -- how many steps that takes
 abbrev pub steps_of_deck : Program → ℕ
-steps_of_deck p = steps_in p.form (length (deck_of p))
+steps_of_deck p = deck_steps p.form (length (deck_of p))
 
 -- the Load key over the deck, and its steps, load the program over any core
 abbrev pub LoadsItself : Program → Type 0

@@ -43,18 +43,18 @@ cause_text (SameFile other) =
     Some (codes ": is the same file as that of " ++ option_text other ++ codes ": name another file for one of them\n")
 
 -- what to see to at a named file, of an input or not
-abbrev pub seen_to : Doing → Bool → List ℕ
-seen_to Open true = codes "the name is right and the file may be read"
-seen_to Open false = codes "the name is right, the folder is there, and the file may be written"
-seen_to Empty input = codes "the file may be written"
-seen_to Read input = codes "it is a file that may be read"
-seen_to ReadSector input = codes "it is a file that may be read"
-seen_to Write input = codes "there is room and the file may be written"
-seen_to WriteSector input = codes "there is room and the file may be written"
+abbrev pub thing_to_see : Doing → Bool → List ℕ
+thing_to_see Open true = codes "the name is right and the file may be read"
+thing_to_see Open false = codes "the name is right, the folder is there, and the file may be written"
+thing_to_see Empty input = codes "the file may be written"
+thing_to_see Read input = codes "it is a file that may be read"
+thing_to_see ReadSector input = codes "it is a file that may be read"
+thing_to_see Write input = codes "there is room and the file may be written"
+thing_to_see WriteSector input = codes "there is room and the file may be written"
 
 -- what to see to, at a named file or not
 abbrev pub what_to_see : unit.Unit → Doing → Bool → List ℕ
-what_to_see u doing true = codes "ibm1620: see that " ++ seen_to doing (is_input u) ++ codes "\n"
+what_to_see u doing true = codes "ibm1620: see that " ++ thing_to_see doing (is_input u) ++ codes "\n"
 what_to_see Pack doing false = codes "ibm1620: free some memory, or name a file by --pack FILE\n"
 what_to_see u doing false =
     codes "ibm1620: see that it is open and has room, or name a file by " ++ option_text u ++ codes " FILE\n"

@@ -23,7 +23,7 @@ use Rattle.command_line.specs.Known.{core_of, file_of}
 use Rattle.message_hints.specs.Breaches.{breach_text}
 use Rattle.message_hints.specs.Problems.{misuse_text}
 use Rattle.message_hints.specs.Refusals.{refusal_shown}
-use Rattle.job_messages.specs.Checks.{advice, meaning}
+use Rattle.job_messages.specs.Checks.{what_to_look_at, meaning}
 use Rattle.job_messages.specs.Faults.{fault_words}
 use Rattle.job_messages.specs.Parts.{address_text, part_line}
 use Rattle.job_messages.specs.Words.{fault_file, named_by}
@@ -72,7 +72,7 @@ check_sentence kind at =
 -- a check stop: that line, the part that it is about, and what to look at
 unfoldable pub check_text : Stop → ℕ → Option CheckPart → CoreSize → List ℕ
 check_text kind at part core =
-    check_sentence kind at ++ part_line kind at part ++ codes "ibm1620: " ++ advice kind ++ codes "\n" ++ larger_text kind core
+    check_sentence kind at ++ part_line kind at part ++ codes "ibm1620: " ++ what_to_look_at kind ++ codes "\n" ++ larger_text kind core
 
 -- how the last steps are seen, where a deck or else a source is known
 unfoldable pub trace_text : Option (List ℕ) → Option (List ℕ) → List ℕ

@@ -1,7 +1,7 @@
 // What a check stop says.
 ghost use Rattle.std.specs.Prelude.{◌≡◌, Some};
 ghost use Rattle.addr_indirect.specs.Stops.{stop_number};
-ghost use Rattle.job_messages.specs.Checks.{meaning, advice};
+ghost use Rattle.job_messages.specs.Checks.{meaning, what_to_look_at};
 
 use crate::numbers::Address;
 use addr_indirect::Stop;
@@ -38,8 +38,8 @@ impl fmt::Display for Meaning {
 }
 
 // What is looked at after a stop.
-fn look_at(stop: Stop) -> &'static str
-    ensures { result.now ≡ advice stop }
+fn what_to_look_at(stop: Stop) -> &'static str
+    ensures { result.now ≡ what_to_look_at stop }
 {
     match stop {
         Stop::OddInstruction => "look at the branch to it: instructions stand at even addresses",
@@ -69,9 +69,9 @@ pub(crate) fn stop_number(stop: Stop) -> u32
 pub(crate) struct Advice(pub(crate) Stop);
 
 impl fmt::Display for Advice {
-    ghost output = { λ a. Some (advice a.0) };
+    ghost output = { λ a. Some (what_to_look_at a.0) };
 
     fn fmt<W: fmt::Write>(&self, f: &mut fmt::Formatter<W>) -> fmt::Result {
-        f.write_str(look_at(self.0))
+        f.write_str(what_to_look_at(self.0))
     }
 }

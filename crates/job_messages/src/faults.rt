@@ -1,6 +1,6 @@
 // What a failure of the host says.
 ghost use Rattle.std.specs.Prelude.{◌≡◌, Some};
-ghost use Rattle.job_messages.specs.Faults.{cause_text, failed, fault_text, place_text, remedy_text, what_to_see, seen_to};
+ghost use Rattle.job_messages.specs.Faults.{cause_text, failed, fault_text, place_text, remedy_text, what_to_see, thing_to_see};
 
 use crate::names::{FileOption, Named};
 use outside_io::{Cause, Doing, Trouble, Unit};
@@ -128,8 +128,8 @@ impl fmt::Display for SeeTo {
     fn fmt<W: fmt::Write>(&self, f: &mut fmt::Formatter<W>) -> fmt::Result {
         let unit = self.unit;
         if self.is_named {
-            let advice = advice(self.doing, unit.is_input());
-            return write!(f, "ibm1620: see that {advice}\n");
+            let thing = thing_to_see(self.doing, unit.is_input());
+            return write!(f, "ibm1620: see that {thing}\n");
         }
         if unit == Unit::Pack {
             return f.write_str("ibm1620: free some memory, or name a file by --pack FILE\n");
@@ -157,8 +157,8 @@ fn failed(doing: Doing) -> &'static str
 }
 
 // What to see to.
-fn advice(doing: Doing, is_input: bool) -> &'static str
-    ensures { result.now ≡ seen_to doing is_input }
+fn thing_to_see(doing: Doing, is_input: bool) -> &'static str
+    ensures { result.now ≡ thing_to_see doing is_input }
 {
     match (doing, is_input) {
         (Doing::Open, true) => "the name is right and the file may be read",

@@ -17,5 +17,5 @@ without_back [] = []
 without_back (b ∷ bs) = onto_front b (without_back bs)
 
 -- the blanks at both ends removed
-abbrev pub without_outer_blanks : List ℕ → List ℕ
-without_outer_blanks text = without_back (without_front text)
+abbrev pub trimmed : List ℕ → List ℕ
+trimmed text = without_back (without_front text)

@@ -1,12 +1,12 @@
 // The blanks at the ends of a text.
 ghost use Rattle.std.specs.Prelude.{◌≡◌};
-ghost use Rattle.line_words.specs.Blanks.{without_outer_blanks, without_front, without_back};
+ghost use Rattle.line_words.specs.Blanks.{trimmed, without_front, without_back};
 
 /// The text without the blanks at its ends. A blank is byte 32 and nothing else.
 ///
 /// Source: this project's own.
 pub fn trimmed(text: &[u8]) -> &[u8]
-    ensures { result.now ≡ without_outer_blanks text.now }
+    ensures { result.now ≡ trimmed text.now }
 {
     without_back(without_front(text))
 }

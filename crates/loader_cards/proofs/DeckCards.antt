@@ -6,21 +6,21 @@ use Rattle.std.specs.Prelude.{Result, Ok, Err, IfOk}
 use Rattle.card_code.specs.declared.Card.{Card}
 use Rattle.sps_pass_two.specs.Image.{DigitRun}
 use Rattle.sps_pass_two.specs.Kept.{IsPiece, IsImage, lowest_declared}
-use Rattle.deck_punch.specs.Deck.{deck, deck_steps}
+use Rattle.deck_punch.specs.Deck.{deck, self_loading_steps}
 use Rattle.loader_cards.specs.Loads.{Loads}
 use Rattle.card_columns.specs.Types.{card_bytes}
 use Rattle.loader_cards.proofs.CardCounts.{deck_few}
 use Rattle.loader_cards.proofs.DeckOverlay.{loads}
 
 -- cards of the deck's texts load the image
-deck_loads : (cards : List Card) (image : List DigitRun) (start : ℕ) → All IsPiece image → All (λ r. lowest_declared ≤ r.from) image → map card_bytes cards ≡ deck image start → Loads (map card_bytes cards) image start (deck_steps (length cards))
+deck_loads : (cards : List Card) (image : List DigitRun) (start : ℕ) → All IsPiece image → All (λ r. lowest_declared ≤ r.from) image → map card_bytes cards ≡ deck image start → Loads (map card_bytes cards) image start (self_loading_steps (length cards))
 deck_loads cards image start each lowest is =
     let l : length (map card_bytes cards) ≡ length cards = length-map cards card_bytes in
     let n : length cards ≡ length (deck image start) = sym l ∙ ap length is in
-    subst (λ (n : ℕ). Loads (map card_bytes cards) image start (deck_steps n)) (sym n) (subst (λ (texts : List (List ℕ)). Loads texts image start (deck_steps (length (deck image start)))) (sym is) (loads image start each lowest))
+    subst (λ (n : ℕ). Loads (map card_bytes cards) image start (self_loading_steps n)) (sym n) (subst (λ (texts : List (List ℕ)). Loads texts image start (self_loading_steps (length (deck image start)))) (sym is) (loads image start each lowest))
 
 pub if_loads : (r : Result (Vec Card Global) AllocError) (image : List DigitRun) (start : ℕ) → All IsPiece image → All (λ r. lowest_declared ≤ r.from) image → IfOk r (λ cards. map card_bytes cards.items ≡ deck image start) →
-    IfOk r (λ cards. Loads (map card_bytes cards.items) image start (deck_steps (length cards.items)))
+    IfOk r (λ cards. Loads (map card_bytes cards.items) image start (self_loading_steps (length cards.items)))
 if_loads (Ok cards) image start each lowest is = deck_loads cards.items image start each lowest is
 if_loads (Err e) image start each lowest is = tt
 

@@ -19,7 +19,7 @@ use Rattle.sps_pass_two.specs.Kept.{IsPiece, IsRunBelow, lowest_declared}
 use Rattle.deck_punch.specs.declared.form.DeckForm.TheVariants.{SelfLoading}
 use Rattle.deck_punch.specs.Cards.{card_of, transfer_card}
 use Rattle.deck_punch.specs.Tables.{table_piece, other_pieces, with_tables}
-use Rattle.deck_punch.specs.Deck.{segments, deck, deck_steps}
+use Rattle.deck_punch.specs.Deck.{segments, deck, self_loading_steps}
 use Rattle.deck_punch.proofs.Declaring.{cut_declares, or_none}
 use Rattle.deck_punch.proofs.WithTables.{table_from, table_length, table_good, table_there, others_low, others_each, others_behind, others_below}
 use Rattle.deck_punch.specs.Overlay.{cell_or, overlay}
@@ -114,7 +114,7 @@ module _ (image : List DigitRun) (start m : ℕ) (s : State) (rest : List Entry)
       (λ a low high. rw (others_low image a high, table_there image a low high) at (over a (omega arith)))
       (λ a h far. rw (table_beside image a far, or_none) at (over a h))
 
-  steps_are : deck_steps (length (deck image start)) ≡ 4 * length gs + 1
+  steps_are : self_loading_steps (length (deck image start)) ≡ 4 * length gs + 1
   steps_are =
       let a = length-append (map card_of gs) (transfer_card start ∷ []) in
       let b : length (map card_of gs) ≡ length gs = length-map gs card_of in
@@ -127,15 +127,15 @@ module _ (image : List DigitRun) (start m : ℕ) (s : State) (rest : List Entry)
   steps_made : after_steps (4 * length gs + 1) s0 ≡ loaded_state
   steps_made = ends.leads.there ∙ (λ i. record s { core = core_is i; regs = on_at s.regs start; panel = set LAST_CARD (has_none_left rest) (panel_for_load s.panel); hopper = rest; mode = Running })
 
-  leads_there : after_steps (deck_steps (length (deck image start))) (load_key s) ≡ loaded_state
-  leads_there = ap (after_steps (deck_steps (length (deck image start)))) key_pressed ∙ ap (λ (n : ℕ). after_steps n s0) steps_are ∙ steps_made
+  leads_there : after_steps (self_loading_steps (length (deck image start))) (load_key s) ≡ loaded_state
+  leads_there = ap (after_steps (self_loading_steps (length (deck image start)))) key_pressed ∙ ap (λ (n : ℕ). after_steps n s0) steps_are ∙ steps_made
 
   is_entered : loaded_state ≡ state_at_start (load_key s) image start s.core rest
   is_entered =
       (λ i. record s { core = overlay s.core image start; regs = on_at s.regs start; panel = sym (lamp_twice (panel_for_load s.panel) (has_none_left rest) (has_none_left later)) i; hopper = rest; mode = Running })
       ∙ ap (λ (x : State). state_at_start x image start s.core rest) (sym key_pressed)
 
-  loads_over : LoadsOver (deck image start) image start (deck_steps (length (deck image start))) s rest
+  loads_over : LoadsOver (deck image start) image start (self_loading_steps (length (deck image start))) s rest
   loads_over = record {
     running = λ n h. ap (λ (x : State). (after_steps n x).mode) key_pressed ∙ ends.leads.running n (omega (arith, steps_are));
     loaded = leads_there ∙ is_entered;
@@ -143,11 +143,11 @@ module _ (image : List DigitRun) (start m : ℕ) (s : State) (rest : List Entry)
   }
 
 -- for each image whose digits are good and stand from 00100 on, and each start
-pub loads : (image : List DigitRun) (start : ℕ) → All IsPiece image → All (λ r. lowest_declared ≤ r.from) image → Loads (deck image start) image start (deck_steps (length (deck image start)))
+pub loads : (image : List DigitRun) (start : ℕ) → All IsPiece image → All (λ r. lowest_declared ≤ r.from) image → Loads (deck image start) image start (self_loading_steps (length (deck image start)))
 loads image start each lowest m s rest sized long under below_end hopper = loads_over image start m s rest sized long each lowest under below_end hopper
 
 -- the state that the deck leaves
 pub loaded_from : (image : List DigitRun) (start m : ℕ) (s : State) (rest : List Entry) → All IsPiece image → All (λ r. lowest_declared ≤ r.from) image → IsSize m → length s.core ≡ size m → All (IsRunBelow (size m)) image → start < size m
     → s.hopper ≡ map Text (deck image start) ++ rest
-    → after_steps (deck_steps (length (deck image start))) (load_key s) ≡ record s { core = overlay s.core image start; regs = on_at s.regs start; panel = set LAST_CARD (has_none_left rest) (panel_for_load s.panel); hopper = rest; mode = Running }
+    → after_steps (self_loading_steps (length (deck image start))) (load_key s) ≡ record s { core = overlay s.core image start; regs = on_at s.regs start; panel = set LAST_CARD (has_none_left rest) (panel_for_load s.panel); hopper = rest; mode = Running }
 loaded_from image start m s rest each lowest sized long under below_end hopper = leads_there image start m s rest sized long each lowest under below_end hopper

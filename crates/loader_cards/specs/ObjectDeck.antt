@@ -3,7 +3,7 @@ use Rattle.std.specs.Prelude.{ℕ, ◌≡◌, List, length, map}
 use Rattle.card_code.specs.declared.Card.{Card}
 use Rattle.sps_pass_two.specs.Image.{DigitRun}
 use Rattle.sps_pass_two.specs.declared.assembled.Assembled.{Assembled}
-use Rattle.deck_punch.specs.Deck.{deck, deck_steps}
+use Rattle.deck_punch.specs.Deck.{deck, self_loading_steps}
 use Rattle.deck_punch.specs.Dense.{dense_deck, dense_steps}
 use Rattle.deck_punch.specs.declared.form.DeckForm.{DeckForm}
 use Rattle.deck_punch.specs.declared.form.DeckForm.TheVariants.{SelfLoading, Dense}
@@ -16,9 +16,9 @@ deck_in SelfLoading image start = deck image start
 deck_in Dense image start = dense_deck image start
 
 -- how many steps a deck of so many cards takes
-abbrev pub steps_in : DeckForm → ℕ → ℕ
-steps_in SelfLoading cards = deck_steps cards
-steps_in Dense cards = dense_steps cards
+abbrev pub deck_steps : DeckForm → ℕ → ℕ
+deck_steps SelfLoading cards = self_loading_steps cards
+deck_steps Dense cards = dense_steps cards
 
 -- a deck has so many cards at least
 abbrev pub fewest_in : DeckForm → ℕ
@@ -32,4 +32,4 @@ AreDeckOf form program cards = map card_bytes cards ≡ deck_in form program.ima
 -- the cards load the program's image and enter its start, in the steps of their form
 abbrev pub LoadAndEnter : DeckForm → Assembled → List Card → Type 0
 LoadAndEnter form program cards =
-    Loads (map card_bytes cards) program.image.pieces program.start (steps_in form (length cards))
+    Loads (map card_bytes cards) program.image.pieces program.start (deck_steps form (length cards))

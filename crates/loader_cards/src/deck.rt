@@ -7,7 +7,7 @@ ghost use Rattle.deck_punch.specs.Cut.{cut, cut_dense};
 ghost use Rattle.deck_punch.specs.Cards.{card_of};
 ghost use Rattle.deck_punch.specs.Deck.{deck};
 ghost use Rattle.deck_punch.specs.Dense.{dense_card_of, dense_deck};
-ghost use Rattle.loader_cards.specs.ObjectDeck.{AreDeckOf, LoadAndEnter, fewest_in, steps_in};
+ghost use Rattle.loader_cards.specs.ObjectDeck.{AreDeckOf, LoadAndEnter, fewest_in, deck_steps};
 ghost use Rattle.card_columns.specs.Types.{card_bytes};
 
 use card_code::Card;
@@ -103,7 +103,7 @@ fn punch(alloc: Global, cards: &mut Vec<Card>, image: &Image) -> Result<(), Allo
 pub fn deck_steps(cards: u64, form: DeckForm) -> u64
     requires some { fewest_in form ≤ cards }
     requires most { cards ≤ 100000 }
-    ensures { result ≡ steps_in form cards }
+    ensures { result ≡ deck_steps form cards }
 {
     match form {
         DeckForm::SelfLoading => 4 * (cards - 1) + 1,

@@ -2,7 +2,7 @@
 -- Source: SPS manual, coding sheet; which columns are marked is this project's own.
 use Rattle.std.specs.Prelude.{ℕ, ◌≡◌, ◌≤◌, ◌+◌, ◌-◌, ◌==◌, Option, None, Some, IfSome, List, [], length, if◌then◌else◌}
 use Rattle.std.specs.List.{take_while}
-use Rattle.line_words.specs.Blanks.{without_outer_blanks}
+use Rattle.line_words.specs.Blanks.{trimmed}
 use Rattle.sps_ops.specs.declared.rule.Rule.{Rule}
 use Rattle.sps_ops.specs.declared.rule.Rule.TheVariants.{BadColumn, LongCard, BadLabel, UnknownOperation, DuplicateLabel}
 use Rattle.message_hints.specs.declared.marks.SheetField.{SheetField}
@@ -30,7 +30,7 @@ from_to first last = record { first = first; last = last }
 -- the columns of a text that begins in the first, without the blanks at its ends; none where it is blank
 abbrev pub written_columns : ℕ → List ℕ → Option SheetColumns
 written_columns first text =
-    let written = length (without_outer_blanks text) in
+    let written = length (trimmed text) in
     let from = first + blanks_before text in
     if written == 0 then None else Some (from_to from (from + (written - 1)))
 

@@ -91,7 +91,7 @@ pub(crate) fn opening_of(rule: Rule, line: &[u8]) -> Option<Opening> {
 }
 
 fn opening_in(line: &[u8]) -> Option<Opening> {
-    match without_blanks(line) {
+    match behind_blanks(line) {
         [b'/', b'/', ..] => Some(Opening::Slashes),
         [b'/', b'*', ..] => Some(Opening::SlashStar),
         [b'-', b'-', ..] => Some(Opening::Dashes),
@@ -103,7 +103,7 @@ fn opening_in(line: &[u8]) -> Option<Opening> {
 }
 
 // The line behind its first blanks.
-fn without_blanks(line: &[u8]) -> &[u8] {
+fn behind_blanks(line: &[u8]) -> &[u8] {
     let blanks = line.iter().take_while(|b| **b == b' ').count();
     line.get(blanks..).unwrap_or(line)
 }

@@ -31,7 +31,7 @@ impl<'s> Picture<'s> {
     pub fn new(line: &'s [u8], mark: Option<SheetColumns>) -> Self
         ensures { IsBeginning result.shown.bytes.now line.now }
     {
-        let line = without_blanks(line, mark);
+        let line = without_end_blanks(line, mark);
         let shown = ShownStatement::new(line);
         Picture {
             shown,
@@ -42,7 +42,7 @@ impl<'s> Picture<'s> {
 }
 
 // The line without the blanks at its end, but with those that are marked.
-fn without_blanks(line: &[u8], mark: Option<SheetColumns>) -> &[u8]
+fn without_end_blanks(line: &[u8], mark: Option<SheetColumns>) -> &[u8]
     ensures { IsBeginning result.now line.now }
 {
     let least = match mark {

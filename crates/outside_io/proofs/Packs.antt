@@ -8,7 +8,7 @@ use Rattle.outside_io.specs.declared.in_memory.files.NamedFile.{NamedFile}
 use Rattle.outside_io.specs.declared.host.Unit as unit
 use Rattle.outside_io.specs.declared.in_memory.pack.Sectors.{Sectors}
 use Rattle.outside_io.specs.Pack.{sectors_over, IsUnwritten}
-use Rattle.outside_io.specs.World.{zero_character, with_zeros, sectors_of, sector_text, empty_pack, blank_pack, sectors_after_binding, place, is_pack, is_output}
+use Rattle.outside_io.specs.World.{zero_character, with_zeros, sectors_of, pack_sector_text, empty_pack, blank_pack, sectors_after_binding, place, is_pack, is_output}
 use Rattle.outside_io.specs.declared.host.Unit.TheVariants.{Pack}
 use Rattle.outside_io.specs.declared.in_memory.files.Files.{Files}
 use Rattle.outside_io.specs.Files.{bytes_at, file_bytes, sectors_from, pack_of, Opens, IsIdle}
@@ -60,22 +60,22 @@ bound_pack files p is flag =
 -- a sector of the pack's file
 pub bound_sector : (files : Files) (p a : ℕ) (file : NamedFile) → p ≡ place Pack → get_or files.bound p false ≡ true
     → get_or files.opened p 0 < length files.named.items → file ≡ get_or files.named.items (get_or files.opened p 0) file
-    → sector_text (sectors_of file.bytes.items) a ≡ sector_text (pack_of files) a
+    → pack_sector_text (sectors_of file.bytes.items) a ≡ pack_sector_text (pack_of files) a
 bound_sector files p a file is flag within found =
-    ap (λ (f : NamedFile). sector_text (sectors_of f.bytes.items) a) found
-    ∙ ap (λ (bytes : List ℕ). sector_text (sectors_of bytes) a) (sym (bytes_at-get files.named.items (get_or files.opened p 0) file within))
-    ∙ ap (λ (pack : ℕ → List ℕ). sector_text pack a) (sym (bound_pack files p is flag))
+    ap (λ (f : NamedFile). pack_sector_text (sectors_of f.bytes.items) a) found
+    ∙ ap (λ (bytes : List ℕ). pack_sector_text (sectors_of bytes) a) (sym (bytes_at-get files.named.items (get_or files.opened p 0) file within))
+    ∙ ap (λ (pack : ℕ → List ℕ). pack_sector_text pack a) (sym (bound_pack files p is flag))
 
 -- a sector of a pack whose name stands for no file
-pub missing_sector : (files : Files) (p a : ℕ) → p ≡ place Pack → get_or files.bound p false ≡ true → length files.named.items ≤ get_or files.opened p 0 → blank_pack a ≡ sector_text (pack_of files) a
+pub missing_sector : (files : Files) (p a : ℕ) → p ≡ place Pack → get_or files.bound p false ≡ true → length files.named.items ≤ get_or files.opened p 0 → blank_pack a ≡ pack_sector_text (pack_of files) a
 missing_sector files p a is flag past =
     ap (λ (t : List ℕ). with_zeros 100 t) (sym (no_bytes a))
-    ∙ ap (λ (bytes : List ℕ). sector_text (sectors_of bytes) a) (sym (bytes_at-past files.named.items (get_or files.opened p 0) past))
-    ∙ ap (λ (pack : ℕ → List ℕ). sector_text pack a) (sym (bound_pack files p is flag))
+    ∙ ap (λ (bytes : List ℕ). pack_sector_text (sectors_of bytes) a) (sym (bytes_at-past files.named.items (get_or files.opened p 0) past))
+    ∙ ap (λ (pack : ℕ → List ℕ). pack_sector_text pack a) (sym (bound_pack files p is flag))
 
 -- a sector where no pack is bound
-pub unbound_sector : (files : Files) (p a : ℕ) → p ≡ place Pack → get_or files.bound p false ≡ false → blank_pack a ≡ sector_text (pack_of files) a
-unbound_sector files p a is flag = sym (ap (λ (b : Bool). sector_text (sectors_from b (bytes_at files.named.items (get_or files.opened (place Pack) 0))) a) (subst (λ (q : ℕ). get_or files.bound q false ≡ false) is flag))
+pub unbound_sector : (files : Files) (p a : ℕ) → p ≡ place Pack → get_or files.bound p false ≡ false → blank_pack a ≡ pack_sector_text (pack_of files) a
+unbound_sector files p a is flag = sym (ap (λ (b : Bool). pack_sector_text (sectors_from b (bytes_at files.named.items (get_or files.opened (place Pack) 0))) a) (subst (λ (q : ℕ). get_or files.bound q false ≡ false) is flag))
 
 -- where no sector is written the pack is the base
 over_none : (sectors : Sectors) (base : ℕ → List ℕ) → IsUnwritten sectors → sectors_over sectors base ≡ base

@@ -157,8 +157,8 @@ abbrev pub sectors_of : List ℕ → ℕ → List ℕ
 sectors_of bytes a = take SECTOR_LENGTH (drop (SECTOR_LENGTH * a) bytes)
 
 -- the text of a sector, as it reads: missing bytes are the character 0
-abbrev pub sector_text : (ℕ → List ℕ) → ℕ → List ℕ
-sector_text sectors a = with_zeros SECTOR_LENGTH (sectors a)
+abbrev pub pack_sector_text : (ℕ → List ℕ) → ℕ → List ℕ
+pack_sector_text sectors a = with_zeros SECTOR_LENGTH (sectors a)
 
 -- a pack on which nothing was ever written has no bytes
 abbrev pub empty_pack : ℕ → List ℕ
@@ -166,7 +166,7 @@ empty_pack a = []
 
 -- and its sectors read as zeros
 abbrev pub blank_pack : ℕ → List ℕ
-blank_pack a = sector_text empty_pack a
+blank_pack a = pack_sector_text empty_pack a
 
 -- the sectors once the pack's file is bound; a host that tells no sectors goes on telling none
 abbrev pub sectors_after_binding : Option (List ℕ) → Option (ℕ → List ℕ) → Option (ℕ → List ℕ)
@@ -255,7 +255,7 @@ with_sector_written a bytes w = record w { sectors = option_map (with_sector a b
 
 -- the bytes are the sector's text, and the pack has what it had
 pub record GetsSector (old new : Seen) (a : ℕ) (bytes : List ℕ) : Type 0 where
-  pub bytes_are : IfSome old.world.sectors (λ sectors. bytes ≡ sector_text sectors a)
+  pub bytes_are : IfSome old.world.sectors (λ sectors. bytes ≡ pack_sector_text sectors a)
   pub goes : Goes old new old.world
 
 -- what the reading of a sector does, bytes being those that it leaves in the buffer
@@ -278,7 +278,7 @@ GainsFile world old new name bytes = world new ≡ with_file name bytes (world o
 
 -- the text of a sector, where the sectors are told
 abbrev pub sector_in : World → ℕ → Option (List ℕ)
-sector_in w a = option_map (λ sectors. sector_text sectors a) w.sectors
+sector_in w a = option_map (λ sectors. pack_sector_text sectors a) w.sectors
 
 -- no unit has a name
 abbrev pub IsUnnamed : World → Type 0

@@ -1,4 +1,5 @@
 // The host over real files and the standard output: it tells nothing of the bytes.
+// Source: this project's own.
 ghost use Rattle.std.specs.Prelude.{◌≡◌, ◌≤◌, ◌<◌, length, false, true, IfOk, IfSome};
 ghost use Rattle.outside_io.specs.World.{IsFree, IsUnnamed, Fails, Binds, Takes, Puts, ReadsSector, WritesSector, is_input, is_output};
 ghost use Rattle.outside_io.specs.Real.{real_seen, pack_room, TellsNothing, FinishesFiles};
@@ -85,7 +86,7 @@ where
 /// last one that is written, 8,000,000 bytes at most, and a writing fails where there is none for it.
 ///
 /// A standard output that never blocks is waited for while it is full. A call that a signal cut short is made again.
-/// Source: this project's own. What files and the standard output do is trusted.
+/// What files and the standard output do is trusted.
 #[derive(Drop)]
 pub struct RealHost<'a, R: Files> {
     rt: &'a R,
@@ -104,8 +105,6 @@ where
     R::File: Lockable,
 {
     /// A host with no unit in use, over the runtime that it is lent. It takes memory as a pack without a file is written.
-    ///
-    /// Source: this project's own.
     pub fn new(rt: &'a R) -> Self
         ensures faults { (real_seen result).faults ≡ 0 }
         ensures free { IsFree (real_seen result).world }
@@ -117,8 +116,6 @@ where
 
     /// A host with no unit in use, over the runtime and the room for a blank pack that it is lent. With room it takes no memory, also where a
     /// pack without a file is written; with none it is as by `new`.
-    ///
-    /// Source: this project's own.
     pub fn with_pack_room(rt: &'a R, room: Option<PackRoom>) -> Self
         ensures faults { (real_seen result).faults ≡ 0 }
         ensures free { IsFree (real_seen result).world }
@@ -139,8 +136,6 @@ where
     }
 
     /// The last failure, by a call or by `finish`; None where none failed.
-    ///
-    /// Source: this project's own.
     pub fn trouble(&self) -> Option<&Trouble> {
         self.trouble.as_ref()
     }
@@ -149,7 +144,6 @@ where
     ///
     /// `Done`: nothing that the host tells changed. `Failed`: a file could not be emptied, the count of faults rose, and nothing else
     /// changed. The others are emptied all the same.
-    /// Source: this project's own.
     pub fn finish(&mut self) -> Sent
         ensures finishes { FinishesFiles (real_seen self.old) (real_seen self.new) result }
         ensures room { pack_room self.new ≡ pack_room self.old }

@@ -4,7 +4,7 @@ use Rattle.std.specs.Prelude.{ℕ, ℤ, pos, Bool, true, false, not, ◌&&◌, �
 use Rattle.std.specs.List.{find as first_of}
 use Rattle.sps_ops.specs.declared.rule.Rule.{Rule}
 use Rattle.sps_ops.specs.declared.rule.Rule.TheVariants.{BadColumn, LongCard, DuplicateLabel, UndefinedSymbol}
-use Rattle.line_words.specs.Blanks.{without_outer_blanks}
+use Rattle.line_words.specs.Blanks.{trimmed}
 use Rattle.sps_scan.specs.declared.statement.Shape.{Shape}
 use Rattle.sps_scan.specs.declared.statement.Shape.TheVariants as shape
 use Rattle.sps_scan.specs.Columns.{columns}
@@ -41,7 +41,7 @@ earlier_statement number (Some found) = if nat_lt found.1 number then Some (foun
 -- first statement of each
 abbrev pub first_with_label : List ℕ → ℕ → Option ℕ → Option (ℕ × Option Rule)
 first_with_label source number head =
-    earlier_statement number (find (symbol_of head (without_outer_blanks (statement_of (source_line_at source number)).label)) (symbols_of source))
+    earlier_statement number (find (symbol_of head (trimmed (statement_of (source_line_at source number)).label)) (symbols_of source))
 
 -- The statement whose label a part lacks.
 
@@ -53,7 +53,7 @@ line_rule s = None
 
 -- what a line has in the columns of its label, without the blanks at the ends
 abbrev pub label_columns : List ℕ → List ℕ
-label_columns line = without_outer_blanks (columns 6 11 line)
+label_columns line = trimmed (columns 6 11 line)
 
 -- a label is lost: its statement breaks rule 1 or 2, and no DEND stands before it
 abbrev pub has_lost_label : PassStep → Bool

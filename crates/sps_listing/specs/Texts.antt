@@ -6,7 +6,7 @@ use Rattle.digit_core.specs.declared.Digit.{Digit}
 use Rattle.sps_ops.specs.declared.rule.Rule.{Rule}
 use Rattle.sps_ops.specs.declared.rule.Rule.TheVariants.{BadLabel, DuplicateLabel, UnknownOperation}
 use Rattle.sps_ops.specs.Rules.{rule_number, rule_name}
-use Rattle.line_words.specs.Blanks.{without_outer_blanks}
+use Rattle.line_words.specs.Blanks.{trimmed}
 use Rattle.sps_scan.specs.Statement.{StatementText, statement_of}
 use Rattle.sps_expr.specs.Grammar.{is_nothing}
 use Rattle.sps_pass_one.specs.Measure.{part_at}
@@ -55,13 +55,13 @@ shows_part rule = (nat_le 7 (rule_number rule) && nat_le (rule_number rule) 13) 
 -- the part at a place without the blanks at its ends, where a place is given
 abbrev pub part_text : StatementText → Option ℕ → List ℕ
 part_text s None = []
-part_text s (Some place) = without_outer_blanks (part_at s place)
+part_text s (Some place) = trimmed (part_at s place)
 
 -- what a refusal shows of its statement: the label, the operation or a part, without the blanks at its ends
 abbrev pub shown_text : Rule → Option ℕ → StatementText → List ℕ
-shown_text BadLabel part s = without_outer_blanks s.label
-shown_text DuplicateLabel part s = without_outer_blanks s.label
-shown_text UnknownOperation part s = without_outer_blanks s.operation
+shown_text BadLabel part s = trimmed s.label
+shown_text DuplicateLabel part s = trimmed s.label
+shown_text UnknownOperation part s = trimmed s.operation
 shown_text rule part s = if shows_part rule then part_text s part else []
 
 -- a text behind a blank, where it has a byte

@@ -2,7 +2,7 @@
 -- Source: SPS manual, operation codes and declarative operations; which operations there are, and those of the disk,
 -- are this project's own.
 use Rattle.std.specs.Prelude.{ℕ, ◌+◌, ◌/◌, ◌%◌, false, List, [], ◌∷◌, ◌++◌, map, Option, Some, None}
-use Rattle.line_words.specs.Blanks.{without_outer_blanks}
+use Rattle.line_words.specs.Blanks.{trimmed}
 use Rattle.instruction_table.specs.declared.InstructionRow.{InstructionRow}
 use Rattle.instruction_table.specs.declared.TheConstants.{INSTRUCTIONS}
 use Rattle.instruction_table.specs.Table.{code_of, uses_of, takes_field}
@@ -56,5 +56,5 @@ operations =
     ++ with_values declared declaratives)
 
 -- the operation of a name, blanks at both ends ignored
-abbrev pub lookup_of : List ℕ → Option Operation
-lookup_of op = value_by_name operations (without_outer_blanks op)
+abbrev pub lookup : List ℕ → Option Operation
+lookup op = value_by_name operations (trimmed op)

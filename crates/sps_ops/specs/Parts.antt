@@ -14,10 +14,10 @@ parts_in [] d = 0
 parts_in (r ∷ rs) d = if ghosts.eq r.0 d then r.1 else parts_in rs d
 
 -- the parts of a declarative, as the table of declaratives has them
-abbrev pub parts_declared : Declarative → ℕ
-parts_declared d = parts_in (map (λ r. r.1) DECLARATIVES) d
+abbrev pub declarative_most_parts : Declarative → ℕ
+declarative_most_parts d = parts_in (map (λ r. r.1) DECLARATIVES) d
 
 -- the parts of any operation; an instruction has three, and so has a text that is the name of none
 abbrev pub most_parts : Option Operation → ℕ
-most_parts (Some (Declare d)) = parts_declared d
+most_parts (Some (Declare d)) = declarative_most_parts d
 most_parts operation = 3

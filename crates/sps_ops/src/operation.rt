@@ -1,6 +1,6 @@
 // What an operation is.
 ghost use Rattle.std.specs.Prelude.{◌≡◌, ◌≤◌};
-ghost use Rattle.sps_ops.specs.Parts.{parts_declared, most_parts};
+ghost use Rattle.sps_ops.specs.Parts.{declarative_most_parts, most_parts};
 
 use crate::table::DECLARATIVES;
 
@@ -62,7 +62,7 @@ impl Declarative {
     ///
     /// Source: SPS manual, declarative operations; the numbers are this project's own.
     pub fn most_parts(self) -> usize
-        ensures is { result ≡ parts_declared self }
+        ensures is { result ≡ declarative_most_parts self }
         ensures some { 1 ≤ result }
         ensures ten { result ≤ 10 }
     {

@@ -1,8 +1,8 @@
 // The tables of operations, and looking one up.
 ghost use Rattle.std.specs.Prelude.{◌≡◌, ◌<◌, map, length, IfSome, Some};
 ghost use Rattle.line_words.specs.Rows.{row_from_table, value_by_name, EachRowStandsFor, HasRow};
-ghost use Rattle.line_words.specs.Blanks.{without_outer_blanks};
-ghost use Rattle.sps_ops.specs.Operations.{lookup_of, operations, plain_operation, whole, opcodes, by_digits, two_digit_text, mnemonics, unique_mnemonics, declaratives, declared};
+ghost use Rattle.line_words.specs.Blanks.{trimmed};
+ghost use Rattle.sps_ops.specs.Operations.{lookup, operations, plain_operation, whole, opcodes, by_digits, two_digit_text, mnemonics, unique_mnemonics, declaratives, declared};
 
 use crate::{Declarative, Operation};
 use instruction_table::{INSTRUCTIONS, InstructionRow, OperandUse};
@@ -92,8 +92,8 @@ pub(crate) static DECLARATIVES: [(&str, DeclarativeRow); 14] = [
 /// Source: SPS manual, operation codes and declarative operations; which operations there are is this project's own.
 #[tactic(auto, using(crate::proofs::Names::operation_found))]
 pub fn lookup(op: &[u8]) -> Option<Operation>
-    ensures is { result ≡ lookup_of op.now }
-    ensures row { EachRowStandsFor operations (without_outer_blanks op.now) result }
+    ensures is { result ≡ lookup op.now }
+    ensures row { EachRowStandsFor operations (trimmed op.now) result }
 {
     operation_of(trimmed(op))
 }

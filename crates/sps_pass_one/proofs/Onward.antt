@@ -2,7 +2,7 @@
 use Rattle.std.proofs.Common.{◌≡◌, ℕ, ◌+◌, ℤ, pos, Bool, Option, List, [], ◌∷◌, ◌++◌, map, refl, sym, ◌∙◌, append_assoc}
 use Rattle.std.proofs.lemmas.List.{append-nil}
 use Rattle.sps_scan.specs.Statement.{StatementText, statement_of}
-use Rattle.line_words.specs.Blanks.{without_outer_blanks}
+use Rattle.line_words.specs.Blanks.{trimmed}
 use Rattle.sps_expr.specs.Symbol.{SymbolEntry}
 use Rattle.sps_pass_one.specs.declared.place.Place.{Place}
 use Rattle.sps_pass_one.specs.declared.place.Placing.{Placing}
@@ -32,7 +32,7 @@ walk_on done st line lines left source e o =
 
 pub turned : (done new_done : List Place) (w v : WalkText) (at number : ℕ) (head : Option ℕ) (active : Bool) (symbols new_symbols : List SymbolEntry) (line source : List ℕ) (s : StatementText) (p : Placing) →
     s ≡ statement_of line → number ≡ w.number → head ≡ w.head → active ≡ counts_if w.ended s.shape → Passes w line v →
-    p ≡ placing_if active head symbols at s → new_symbols ≡ symbols_if active head symbols (without_outer_blanks s.label) p.label number →
+    p ≡ placing_if active head symbols at s → new_symbols ≡ symbols_if active head symbols (trimmed s.label) p.label number →
     new_done ≡ done ++ place_by_placing at p ∷ [] →
     Onward done (state w at symbols) w.lines source →
     Onward new_done (state v p.next new_symbols) v.lines source

@@ -2,7 +2,7 @@
 -- Source: SPS manual, HEAD; which rules it may break is this project's own.
 use Rattle.std.specs.Prelude.{ℕ, Bool, true, false, not, List, [], ◌∷◌, ◌++◌, Option, Some, None}
 use Rattle.sps_ops.specs.declared.rule.Rule.TheVariants.{BadExpression}
-use Rattle.line_words.specs.Blanks.{without_outer_blanks}
+use Rattle.line_words.specs.Blanks.{trimmed}
 use Rattle.sps_scan.specs.Statement.{StatementText}
 use Rattle.sps_expr.specs.Grammar.{is_letter_or_digit}
 use Rattle.sps_pass_one.specs.declared.fault.Fault.{Fault}
@@ -17,7 +17,7 @@ is_head_text (h ∷ i ∷ hs) = false
 
 -- the first part of a HEAD, blanks at its ends ignored
 abbrev pub head_text : StatementText → List ℕ
-head_text s = without_outer_blanks (part_at s 0)
+head_text s = trimmed (part_at s 0)
 
 -- the rules that a HEAD breaks: its first part is a head or empty, and its second and third parts are empty
 abbrev pub head_faults : StatementText → List Fault

@@ -9,10 +9,10 @@ use Rattle.sps_ops.specs.declared.operation.Operation.TheVariants.{Instruction, 
 use Rattle.sps_ops.specs.declared.operation.Declarative.TheVariants.{Dend, Head}
 use Rattle.sps_ops.specs.declared.rule.Rule.{Rule}
 use Rattle.sps_ops.specs.declared.rule.Rule.TheVariants.{UnknownOperation}
-use Rattle.sps_ops.specs.Operations.{lookup_of}
+use Rattle.sps_ops.specs.Operations.{lookup}
 use Rattle.sps_scan.specs.declared.statement.Shape.{Shape}
 use Rattle.sps_scan.specs.declared.statement.Shape.TheVariants.{Plain}
-use Rattle.line_words.specs.Blanks.{without_outer_blanks}
+use Rattle.line_words.specs.Blanks.{trimmed}
 use Rattle.sps_scan.specs.Statement.{StatementText, statement_of}
 use Rattle.sps_expr.specs.Grammar.{is_name, is_nothing}
 use Rattle.sps_expr.specs.Symbol.{SymbolEntry, entry_with, find, symbol_of}
@@ -50,7 +50,7 @@ abbrev pub counts : PassState → StatementText → Bool
 counts st s = counts_if st.ended s.shape
 
 abbrev pub operation_of : StatementText → Option Operation
-operation_of s = lookup_of s.operation
+operation_of s = lookup s.operation
 
 -- the head in force, the symbols of earlier statements, and the location for `*`
 abbrev pub earlier_symbols : Option ℕ → List SymbolEntry → ℕ → Scope
@@ -111,7 +111,7 @@ state_before_next st s = record {
   number = st.number + 1;
   at = (placing st s).next;
   head = head_after st.head (counts st s) s;
-  symbols = symbols_if (counts st s) st.head st.symbols (without_outer_blanks s.label) (placing st s).label st.number;
+  symbols = symbols_if (counts st s) st.head st.symbols (trimmed s.label) (placing st s).label st.number;
   ended = ends_if st.ended (counts st s) s;
 }
 

@@ -13,10 +13,10 @@ use Rattle.sps_ops.specs.declared.operation.Operation.{Operation}
 use Rattle.sps_ops.specs.declared.operation.Operation.TheVariants.{Instruction, Declare}
 use Rattle.sps_ops.specs.declared.operation.Declarative.{Declarative}
 use Rattle.sps_ops.specs.declared.operation.Declarative.TheVariants.{Dc, Dsc, Dac, Dsa, Dnb, Dda}
-use Rattle.sps_ops.specs.Operations.{lookup_of}
+use Rattle.sps_ops.specs.Operations.{lookup}
 use Rattle.sps_scan.specs.declared.statement.Shape.{Shape}
 use Rattle.sps_scan.specs.declared.statement.Shape.TheVariants.{Comment, Blank, Long}
-use Rattle.line_words.specs.Blanks.{without_outer_blanks}
+use Rattle.line_words.specs.Blanks.{trimmed}
 use Rattle.sps_scan.specs.Columns.{columns, is_blank, has_comma, before_comma, after_comma}
 use Rattle.sps_scan.specs.Numbers.{short_number}
 use Rattle.sps_scan.specs.Operands.{behind_text, behind_number, dac_operands, operands_of}
@@ -289,7 +289,7 @@ line_fits line h = by_bool (nat_lt 80 (length line))
     (λ t. rw (f, t) (none_fits Comment))
     (λ g. by_bool (is_blank (columns 6 75 line))
     (λ t. rw (f, g, t) (none_fits Blank))
-    (λ e. rw (f, g, e) (operands_fit line (columns 16 75 line) (lookup_of (columns 12 15 line)) (rw (f, g, e) at h)))))
+    (λ e. rw (f, g, e) (operands_fit line (columns 16 75 line) (lookup (columns 12 15 line)) (rw (f, g, e) at h)))))
 
 above_least : (positions from n : ℕ) → is_outside positions from n ≡ false → 0 < n → lowest_declared ≤ from
 above_least positions from n inside some = grind (arith, nat_tests)
@@ -335,7 +335,7 @@ module _ (symbols : List SymbolEntry) (positions : ℕ) (st : PassState) (line :
   lies_if false is h some = absurd (omega arith)
   lies_if true is h some =
       let o = outcome_by_operation st.head symbols here st.number s positions (operation_of s) in
-      let rest = (nil_parts (label_faults st.head symbols (without_outer_blanks s.label) st.number) _ h).1 in
+      let rest = (nil_parts (label_faults st.head symbols (trimmed s.label) st.number) _ h).1 in
       let parts = nil_parts o.faults (broken_if (is_outside positions (begins_at here s) here.digits) OutsideImage) rest in
       let counted : here.digits ≡ (placing_by st.head st.symbols st.at s (operation_of s)).digits = rw is refl in
       let many : length o.digits ≡ here.digits = operation_length (operation_of s) refl parts.0 ∙ sym counted in

@@ -8,7 +8,7 @@ use Rattle.sps_ops.specs.declared.operation.Operation.{Operation}
 use Rattle.sps_ops.specs.declared.operation.Operation.TheVariants.{Instruction, Declare}
 use Rattle.sps_ops.specs.declared.operation.Declarative.TheVariants.{Dend}
 use Rattle.sps_scan.specs.Statement.{StatementText, statement_of}
-use Rattle.line_words.specs.Blanks.{without_outer_blanks}
+use Rattle.line_words.specs.Blanks.{trimmed}
 use Rattle.sps_expr.proofs.Cases.{by_bool, and_parts}
 use Rattle.sps_expr.specs.Symbol.{SymbolEntry}
 use Rattle.sps_expr.specs.Value.{Scope, scope_of}
@@ -143,7 +143,7 @@ unfolding statement_outcome
 counting_faults symbols positions x e active =
     let a = nil_parts (line_faults x.text.shape x.before.ended x.before.number) _ e in
     let b = rw active at a.1 in
-    let c = nil_parts (label_faults x.before.head symbols (without_outer_blanks x.text.label) x.before.number) _ b in
+    let c = nil_parts (label_faults x.before.head symbols (trimmed x.text.label) x.before.number) _ b in
     (nil_parts (outcome_by_operation x.before.head symbols (statement_place x) x.before.number x.text positions (operation_of x.text)).faults _ c.1).0
 
 dend_faults : (head : Option ℕ) (symbols : List SymbolEntry) (place : Place) (number : ℕ) (s : StatementText) (positions : ℕ) (op : Option Operation) → op ≡ Some (Declare Dend) → (outcome_by_operation head symbols place number s positions op).faults ≡ [] → start_faults (anywhere head symbols place.location) s positions ≡ []

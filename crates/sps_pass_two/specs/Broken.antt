@@ -11,7 +11,7 @@ use Rattle.sps_ops.specs.declared.operation.Declarative.{Declarative}
 use Rattle.sps_ops.specs.declared.operation.Declarative.TheVariants.{Ds, Dss, Das, Dc, Dsc, Dac, Dsa, Dsb, Dnb, Dgm, Dda, Dorg, Dend, Head}
 use Rattle.sps_scan.specs.declared.statement.Shape.{Shape}
 use Rattle.sps_scan.specs.declared.statement.Shape.TheVariants as shape
-use Rattle.line_words.specs.Blanks.{without_outer_blanks}
+use Rattle.line_words.specs.Blanks.{trimmed}
 use Rattle.sps_scan.specs.Statement.{StatementText, all_allowed}
 use Rattle.sps_expr.specs.Grammar.{is_nothing}
 use Rattle.sps_expr.specs.Symbol.{SymbolEntry, find, symbol_of}
@@ -174,7 +174,7 @@ is_outside positions from digits = nat_lt 0 digits && (nat_lt from lowest_declar
 -- the rules that a statement that counts breaks, and its digits
 abbrev pub counting_outcome : Option ℕ → List SymbolEntry → Place → ℕ → StatementText → ℕ → Option Operation → StatementOutcome
 counting_outcome head symbols place number s positions op = record {
-  faults = label_faults head symbols (without_outer_blanks s.label) number
+  faults = label_faults head symbols (trimmed s.label) number
       ++ ((outcome_by_operation head symbols place number s positions op).faults
       ++ broken_if (is_outside positions (first_address op place) place.digits) OutsideImage);
   digits = (outcome_by_operation head symbols place number s positions op).digits;

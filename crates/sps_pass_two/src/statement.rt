@@ -2,7 +2,7 @@
 // Source: this project's own.
 ghost use Rattle.std.specs.Prelude.{◌≡◌, [], ◌≤◌, ◌^◌, ◌<◌, List, Bool, length, nat_abs, option_map, is_some, IfOk, None};
 ghost use Rattle.sps_scan.specs.Statement.{statement_text};
-ghost use Rattle.line_words.specs.Blanks.{without_outer_blanks};
+ghost use Rattle.line_words.specs.Blanks.{trimmed};
 ghost use Rattle.sps_expr.specs.Value.{scope_now};
 ghost use Rattle.sps_expr.specs.Symbol.{find};
 ghost use Rattle.sps_pass_one.specs.Faults.{least};

@@ -7,7 +7,7 @@ use Rattle.sps_scan.specs.declared.statement.Shape.{Shape}
 use Rattle.sps_scan.specs.declared.statement.Shape.TheVariants.{Comment, Blank, Long, BadColumn, Plain}
 use Rattle.sps_scan.specs.declared.statement.Statement.{Statement}
 use Rattle.card_code.specs.Pairs.{alpha_of}
-use Rattle.sps_ops.specs.Operations.{lookup_of}
+use Rattle.sps_ops.specs.Operations.{lookup}
 use Rattle.sps_scan.specs.Columns.{columns, is_blank}
 use Rattle.sps_scan.specs.Operands.{OperandParts, operands_of, ten_parts}
 
@@ -89,7 +89,7 @@ with_operands line o = record {
 
 -- a line that is neither long, nor a comment, nor blank: the operation says into how many parts the operands are parted
 abbrev pub with_operation : List ℕ → StatementText
-with_operation line = with_operands line (operands_of (lookup_of (columns 12 15 line)) (columns 16 75 line))
+with_operation line = with_operands line (operands_of (lookup (columns 12 15 line)) (columns 16 75 line))
 
 -- the statement of a line
 unfoldable pub statement_of : List ℕ → StatementText

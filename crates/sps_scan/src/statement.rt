@@ -1,6 +1,6 @@
 // What a line is read as.
 ghost use Rattle.std.specs.Prelude.{◌≡◌, ◌≤◌};
-ghost use Rattle.sps_ops.specs.Operations.{lookup_of};
+ghost use Rattle.sps_ops.specs.Operations.{lookup};
 
 use sps_ops::Operation;
 
@@ -43,5 +43,5 @@ pub struct Statement<'a> {
     /// What follows the comma behind the last part that the operation may have.
     pub remark: &'a [u8],
     ghost few: { count ≤ 10 },
-    ghost named: { found ≡ lookup_of operation.now },
+    ghost named: { found ≡ lookup operation.now },
 }

@@ -1,7 +1,7 @@
 // Named files in memory, and how far each unit has read its own.
 ghost use Rattle.std.specs.Prelude.{◌≡◌, ◌≢◌, ◌≤◌, ◌<◌, ◌+◌, ◌^◌, [], length, take, drop, min, true, false, slice_index_or, OnOk, OnErr};
 ghost use Rattle.std.specs.Option.{option_copied};
-ghost use Rattle.outside_io.specs.World.{is_input, place, sectors_of, sector_text};
+ghost use Rattle.outside_io.specs.World.{is_input, place, sectors_of, pack_sector_text};
 ghost use Rattle.outside_io.specs.declared.host.TheConstants.{ALL_SECTORS};
 
 use crate::Unit;
@@ -153,7 +153,7 @@ impl Files {
     // Reads a sector of the pack's file, or a blank one where no pack is bound.
     pub(crate) fn read_sector(&self, a: u32, into: &mut [u8; SECTOR_LENGTH])
         requires { a < ALL_SECTORS }
-        ensures { into.new ≡ sector_text (pack_of self.now) a }
+        ensures { into.new ≡ pack_sector_text (pack_of self.now) a }
     {
         let place = Unit::Pack.place();
         let opened = self.opened[place];
@@ -188,7 +188,7 @@ fn copy_from(bytes: &[u8], start: usize, buf: &mut [u8]) -> usize
 // Copies a sector of the file, with zeros for its missing bytes.
 fn copy_sector(bytes: &[u8], a: u32, into: &mut [u8; SECTOR_LENGTH])
     requires { a < ALL_SECTORS }
-    ensures { into.new ≡ sector_text (sectors_of bytes.now) a }
+    ensures { into.new ≡ pack_sector_text (sectors_of bytes.now) a }
 {
     *into = [b'0'; SECTOR_LENGTH];
     copy_from(bytes, SECTOR_LENGTH * a as usize, into);

@@ -1,8 +1,9 @@
 // A host in memory: it tells everything, and fails where it was told to.
+// Source: this project's own, for tests.
 ghost use Rattle.std.specs.Prelude.{◌≡◌, ◌≢◌, ◌<◌, ◌≤◌, ◌∷◌, ◌++◌, [], ◌||◌, false, true, length, IfOk, OnOk, OnErr};
 ghost use Rattle.std.specs.Option.{option_copied};
 ghost use Rattle.outside_io.specs.declared.host.Unit as unit;
-ghost use Rattle.outside_io.specs.World.{Seen, Rose, Binds, Takes, Puts, ReadsSector, WritesSector, IsFree, IsFresh, with_sector_written, sector_in, sector_text, GainsFile, is_input, is_output, one_more, bind_failed, take_failed, put_failed, drive_failed};
+ghost use Rattle.outside_io.specs.World.{Seen, Rose, Binds, Takes, Puts, ReadsSector, WritesSector, IsFree, IsFresh, with_sector_written, sector_in, pack_sector_text, GainsFile, is_input, is_output, one_more, bind_failed, take_failed, put_failed, drive_failed};
 ghost use Rattle.outside_io.specs.declared.host.TheConstants.{ALL_SECTORS};
 
 use crate::host::SECTOR_LENGTH;
@@ -57,7 +58,6 @@ impl Calls {
 ///
 /// One of its calls fails exactly where its number is in the list of calls that are to fail, or where it is a `put` on an output
 /// whose room is full. Its calls as a `Host` take no memory.
-/// Source: this project's own, for tests.
 #[derive(Drop)]
 pub struct MemHost {
     files: Files,
@@ -73,7 +73,6 @@ impl MemHost {
     ///
     /// `room` is how many bytes each output takes; that memory is taken here, and also that of all 80,000 sectors of the pack, about
     /// eight million bytes. The error is want of memory.
-    /// Source: this project's own.
     pub fn new(alloc: Global, room: usize) -> Result<Self, AllocError>
         ensures seen { IfOk result (λ host. mem_seen host ≡ first_seen) }
         ensures fresh { IfOk result (λ host. IsFresh (mem_world host)) }
@@ -96,7 +95,6 @@ impl MemHost {
     ///
     /// No unit is in use. Nothing is done where the name stands for these bytes, and a name without a file stands for none. The error is
     /// want of memory for the bytes of a change, and all is then as before.
-    /// Source: this project's own.
     pub fn file(&mut self, name: &str, bytes: &[u8]) -> Result<(), AllocError>
         requires { IsFree (mem_world self.old) }
         ensures ok { OnOk result (GainsFile mem_world self.old self.new name.now bytes.now) }
@@ -112,7 +110,6 @@ impl MemHost {
     ///
     /// All calls of the trait are counted, from 1; the count stands still at 2^64 - 1. The error is want of memory, and all is then as
     /// before.
-    /// Source: this project's own.
     pub fn fail(&mut self, call: u64) -> Result<(), AllocError>
         ensures ok { OnOk result (failing_calls self.new ≡ failing_calls self.old ++ call ∷ []) }
         ensures err { OnErr result (failing_calls self.new ≡ failing_calls self.old) }
@@ -126,8 +123,6 @@ impl MemHost {
     }
 
     /// What was written to an output, never more than its room.
-    ///
-    /// Source: this project's own.
     pub fn shown(&self, unit: Unit) -> &[u8]
         requires { is_output unit ≡ true }
         ensures is { (mem_world self.now).written unit ≡ Some result.now }
@@ -137,8 +132,6 @@ impl MemHost {
     }
 
     /// The name that a unit is bound to; None where it isn't bound, or its name has over 255 bytes.
-    ///
-    /// Source: this project's own, for tests.
     pub fn bound_name(&self, unit: Unit) -> Option<&[u8]>
         ensures { option_copied result ≡ (mem_world self.now).names unit }
     {
@@ -149,7 +142,6 @@ impl MemHost {
     ///
     /// This is no call of the trait: it isn't counted and never fails, and it takes no memory. Once a pack is bound, all sectors are those
     /// of its file.
-    /// Source: this project's own, for tests.
     pub fn set_sector(&mut self, a: u32, text: &[u8; SECTOR_LENGTH])
         requires { a < ALL_SECTORS }
         ensures world { mem_world self.new ≡ with_sector_written a text.now (mem_world self.old) }
@@ -160,8 +152,6 @@ impl MemHost {
     }
 
     /// The text of a sector of the pack, 0 to 79,999: 100 bytes, of which missing ones are the character 0.
-    ///
-    /// Source: this project's own, for tests.
     pub fn sector(&self, a: u32) -> [u8; SECTOR_LENGTH]
         requires { a < ALL_SECTORS }
         ensures { sector_in (mem_world self.now) a ≡ Some result }
@@ -174,7 +164,7 @@ impl MemHost {
     // Copies a sector: the written one, or that of the pack's file.
     fn copy_sector(&self, a: u32, into: &mut [u8; SECTOR_LENGTH])
         requires { a < ALL_SECTORS }
-        ensures { into.new ≡ sector_text (pack_of_host self.now) a }
+        ensures { into.new ≡ pack_sector_text (pack_of_host self.now) a }
     {
         match self.sectors.get(a) {
             Some(text) => *into = text,

@@ -1,4 +1,5 @@
 // A host that never fails: it tells its inputs, and drops what is written.
+// Source: this project's own, for tests.
 ghost use Rattle.std.specs.Prelude.{◌≡◌, ◌≢◌, false, OnOk, OnErr};
 ghost use Rattle.outside_io.specs.World.{ReadsSector, IsFree, IsFresh, blank_pack, no_files, GainsFile};
 
@@ -11,7 +12,6 @@ use std::alloc::{AllocError, Global};
 ///
 /// It holds named files and tells what its inputs have left, and how they were asked. It drops what is written, and tells neither texts nor sectors: each sector
 /// reads as the character 0, a hundred times, also where a pack is bound. Its calls as a `Host` take no memory.
-/// Source: this project's own, for tests.
 #[derive(Drop)]
 pub struct QuietHost {
     files: Files,
@@ -21,8 +21,6 @@ impl QuietHost {
     ghost use Rattle.outside_io.specs.Quiet.{quiet_world};
 
     /// A host without files, with no unit in use.
-    ///
-    /// Source: this project's own.
     pub fn new(alloc: Global) -> Self
         ensures world { quiet_world result ≡ no_files false }
         ensures fresh { IsFresh (quiet_world result) }
@@ -36,7 +34,6 @@ impl QuietHost {
     ///
     /// No unit is in use. Nothing is done where the name stands for these bytes, and a name without a file stands for none. The error is
     /// want of memory for the bytes of a change, and all is then as before.
-    /// Source: this project's own.
     pub fn file(&mut self, name: &str, bytes: &[u8]) -> Result<(), AllocError>
         requires { IsFree (quiet_world self.old) }
         ensures ok { OnOk result (GainsFile quiet_world self.old self.new name.now bytes.now) }
