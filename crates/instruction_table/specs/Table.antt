@@ -1,5 +1,5 @@
 -- The table of instructions, which is the code's own, `INSTRUCTIONS`: to be compared with the manual there.
--- Source: CPU manual, operation codes; SPS manual, flag operand; 71, 72 and 73 are this project's own.
+-- Source: CPU manual, operation codes; SPS manual, flag operand; the special features are this project's own.
 use Rattle.std.specs.Prelude.{ℕ, ◌≡◌, ◌==◌, not, true, false, ◌&&◌, Bool, List, [], ◌∷◌, map, Option, Some, None, if◌then◌else◌, bytes_eq}
 use Rattle.std.specs.List.{list_any}
 use Rattle.instruction_table.specs.declared.InstructionRow.{InstructionRow}

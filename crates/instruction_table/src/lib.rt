@@ -133,7 +133,7 @@ pub enum OperandUse {
 
 /// The cells that an instruction may store, in so far as its operands tell them.
 ///
-/// Source: CPU manual, operation codes; 71, 72 and 73 are this project's own.
+/// Source: CPU manual, operation codes; the special features are this project's own.
 #[derive(Clone, Copy, Debug, PartialEq, Eq)]
 pub enum MayStore {
     /// None.
@@ -157,13 +157,13 @@ pub enum MayStore {
 /// What the table says of an instruction, behind its mnemonic: its operation code, 11 to 73; its operation; the operands that it uses; and
 /// the cells that it may store.
 ///
-/// Source: CPU manual, operation codes; 71, 72 and 73 are this project's own.
+/// Source: CPU manual, operation codes; the special features are this project's own.
 #[derive(Clone, Copy, Debug, PartialEq, Eq)]
 pub struct InstructionRow(pub u8, pub Op, pub OperandUse, pub MayStore);
 
 /// The table of instructions, each under its mnemonic, in the order of the manual.
 ///
-/// Source: CPU manual, operation codes; 71, 72 and 73 are this project's own.
+/// Source: CPU manual, operation codes; the special features are this project's own.
 pub static INSTRUCTIONS: [(&str, InstructionRow); 34] = [
     ("A", InstructionRow(21, Op::A, Both, Down)),
     ("AM", InstructionRow(11, Op::A, Field, Down)),
@@ -203,7 +203,7 @@ pub static INSTRUCTIONS: [(&str, InstructionRow); 34] = [
 
 /// The row of an operation code, or `None` where the table has no such code.
 ///
-/// Source: CPU manual, operation codes; 71, 72 and 73 are this project's own.
+/// Source: CPU manual, operation codes; the special features are this project's own.
 pub fn instruction_of(code: u8) -> Option<InstructionRow>
     ensures { result ≡ instruction_of code }
 {
