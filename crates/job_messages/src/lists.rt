@@ -1,13 +1,12 @@
 // Lists of numbers, and cells, as the console's line shows them.
-ghost use Rattle.std.specs.Prelude.{◌≡◌, ◌≤◌, Some, map, length, IfOk};
-ghost use Rattle.digit_core.specs.Cell.{IsGood, read_cell};
+ghost use Rattle.std.specs.Prelude.{◌≡◌, ◌≤◌, Some, map, length};
 ghost use Rattle.job_messages.specs.declared.lists.TheConstants.{MOST_LAMPS};
 ghost use Rattle.job_messages.specs.Lists.{cell_char, cells_text, codes_text, cylinders_text, those_on};
 
 use crate::numbers::{Code, Cylinder};
 use arrayvec::ArrayVec;
 use card_code::object_char;
-use digit_core::{CellFault, Digit};
+use digit_core::read_cell;
 use std::{fmt, str};
 
 // An indicator or a switch: its code, and whether it is on.
@@ -105,24 +104,5 @@ fn cell_char(cell: u8) -> u8
     match read_cell(cell) {
         Ok(digit) => object_char(digit),
         Err(_) => b'?',
-    }
-}
-
-// What a cell's number says: its digit, or its first fault.
-#[tactic(auto, unfolding(digit_core::specs::Cell::read_cell))]
-fn read_cell(c: u8) -> Result<Digit, CellFault>
-    ensures is { result ≡ read_cell c }
-    ensures good { IfOk result IsGood }
-{
-    let value = c % 16;
-    if c.count_ones() % 2 == 0 {
-        Err(CellFault::EvenParity)
-    } else if value <= 10 || value == 12 || value == 15 {
-        Ok(Digit {
-            flag: c / 16 % 2 == 1,
-            value,
-        })
-    } else {
-        Err(CellFault::BadValue)
     }
 }
