@@ -8,6 +8,7 @@ use Rattle.outside_io.specs.declared.host.TheConstants.{UNIT_COUNT}
 use Rattle.outside_io.specs.World.{World, Asked, Seen, Goes, IsFree, all_units}
 use Rattle.outside_io.specs.Events.{Event, after_events, IsFirstPart}
 use Rattle.outside_io.proofs.EventLemmas.{same_of, after_append, did_none, first_none, first_on}
+use Rattle.command_line.specs.declared.words.CoreSize.{CoreSize}
 use Rattle.command_line.specs.Words.{Names, WordsSaid, no_names}
 use Rattle.ibm1620_cli.specs.declared.status.Status.{Status}
 use Rattle.ibm1620_cli.specs.declared.answer.Answer.{Answer}
@@ -16,7 +17,7 @@ use Rattle.ibm1620_cli.specs.Binding.{bound_if, each_bound, all_bound, BindsName
 use Rattle.ibm1620_cli.specs.Promise.{Job, job_behind, unasked, StopsAt, answer_of, KeepsPromise, world_with_texts, KeepsFrom}
 use Rattle.ibm1620_cli.specs.Report.{report_line}
 use Rattle.ibm1620_cli.specs.Parts.{Reports, LeavesUnread}
-use Rattle.ibm1620_cli.specs.Job.{modules_of, bind_event, bind_events, job_promise, usage_promise, DoesSaid, DoesJob, reads, KeepsFiles, KeepsSaid}
+use Rattle.ibm1620_cli.specs.Job.{modules_of, bind_event, bind_events, job_promise, usage_promise, DoesSaid, DoesJob, DoesJobIn, reads, KeepsFiles, KeepsSaid}
 use Rattle.ibm1620_cli.proofs.Bindings.{first_asked, bound_left, bound_sectors}
 use Rattle.ibm1620_cli.proofs.TakenInputs.{binds_take, stops_unasked}
 use Rattle.ibm1620_cli.proofs.KeptPromises.{once_same, once_second, report_stays, promise_report, promise_bound}
@@ -67,6 +68,10 @@ same_unread (Some said) old new free same = record {
   asked = λ u unread. ap (λ (s : Seen). s.world.asked u) same;
   once = λ u fed. once_same (old.world.asked u) (new.world.asked u) (ap (λ (s : Seen). s.world.asked u) same);
 }
+
+-- a job by the core that the words say is one by so many modules, whatever the settings are
+pub does_by_core : (said : WordsSaid) (old new : Seen) (answer : Answer) (core : CoreSize) → said.core ≡ core → DoesJobIn (modules_of core) said old new answer → DoesJob said old new answer
+does_by_core said old new answer core is does = subst (λ (size : CoreSize). DoesJobIn (modules_of size) said old new answer) (sym is) does
 
 module _ (said : WordsSaid) (old : Seen) where
   abbrev binds : List Event

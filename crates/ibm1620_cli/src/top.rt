@@ -26,16 +26,13 @@ use command_line::{Command, CoreSize, Plain, Read};
 use outside_io::{Bound, Host};
 use std::alloc::{AllocError, Global};
 
-/// Does what the words say, over any host, and answers how that ended, with the console of the machine, the statement of a refused source, and
-/// the statement at IR.
+/// Does what the words behind the program's name say, over any host in which no unit is in use and no output has been given a byte, and answers
+/// how that ended, with the machine's console, the statement of a refused source, and the statement at IR.
 ///
-/// The words are those behind the program's name. No unit of the host is in use, and no output has been given a byte.
-///
-/// - `told`: all that is done outside is one list, by the words and the inputs; after a fault of the host a first part of it is done. The answer is
-///   that of the job; `HostFault` comes only where a call of the host failed, and `OutOfMemory` before a machine is powered on.
+/// - `told`: all that is done outside is one list, by the words and the inputs; after a fault of the host a first part of it is done. `HostFault`
+///   comes only where a call of the host failed, and `OutOfMemory` before a machine is powered on.
 /// - `bound`: files are bound in the order of units, each to the unit that its option names, and no other.
-/// - `unread`: an input that the command does not read keeps all that it had, and is not asked; and the pack keeps its sectors, where the command
-///   does not work with it.
+/// - `unread`: an input that the command does not read keeps all that it had and is not asked; a pack that it doesn't work with keeps its sectors.
 /// - `headline`: a source that breaks no rule runs as its image says, by the table of instructions.
 /// - `trial`, `session`: the ways in which a trial ends, and a session.
 /// - `trip`, `disk_trip`: a deck that `assemble` or `disk` punched does, when it is loaded, what its program does.
