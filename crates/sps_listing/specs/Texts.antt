@@ -1,5 +1,5 @@
 -- The text of the image, and the line of a refusal.
-use Rattle.std.specs.Prelude.{ℕ, zero, suc, ◌+◌, ◌/◌, Bool, ◌&&◌, ◌||◌, ◌==◌, nat_le, if◌then◌else◌, Option, Some, None, List, [], ◌∷◌, ◌++◌, length, take, drop, map, codes, slice_index_or}
+use Rattle.std.specs.Prelude.{ℕ, zero, suc, ◌+◌, ◌/◌, Bool, ◌&&◌, ◌||◌, nat_le, if◌then◌else◌, Option, Some, None, List, [], ◌∷◌, ◌++◌, length, take, drop, map, codes, slice_index_or}
 use Rattle.outside_io.specs.Lines.{texts_of, with_line_feed}
 use Rattle.card_code.specs.Characters.{object_char}
 use Rattle.digit_core.specs.declared.Digit.{Digit}
@@ -48,9 +48,9 @@ abbrev pub source_line_at : List ℕ → ℕ → List ℕ
 source_line_at source zero = []
 source_line_at source (suc n) = slice_index_or (texts_of source) n []
 
--- the rules whose refusal shows an operand part: 7 to 13, and 20
+-- the rules whose refusal shows an operand part, where one is told: 7 to 13, and from 20 on
 abbrev pub shows_part : Rule → Bool
-shows_part rule = (nat_le 7 (rule_number rule) && nat_le (rule_number rule) 13) || (rule_number rule == 20)
+shows_part rule = (nat_le 7 (rule_number rule) && nat_le (rule_number rule) 13) || nat_le 20 (rule_number rule)
 
 -- the part at a place without the blanks at its ends, where a place is given
 abbrev pub part_text : StatementText → Option ℕ → List ℕ

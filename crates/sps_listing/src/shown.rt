@@ -29,11 +29,11 @@ pub(crate) fn line_at(source: &[u8], statement: u32) -> &[u8]
     }
 }
 
-// The rules whose refusal shows an operand part.
+// The rules whose refusal shows an operand part, where one is told.
 fn shows_part(rule: Rule) -> bool
     ensures { result ≡ shows_part rule }
 {
-    matches!(rule.number(), 7..=13 | 20)
+    matches!(rule.number(), 7..=13 | 20..)
 }
 
 // The part at a place without the blanks at its ends, where a place is given.
