@@ -5,15 +5,15 @@ use Rattle.indicators.specs.Panel.{set}
 use Rattle.indicators.specs.Lamps.{Lamp, panel_after}
 use Rattle.digit_core.specs.Cell.{store}
 use Rattle.traces.specs.Stored.{Stored, core_after}
-use Rattle.traces.specs.Change.{Stores, Lights, core_after_changes, panel_after_changes}
+use Rattle.traces.specs.Change.{StoresCell, Lights, core_after_changes, panel_after_changes}
 
 -- stores change core as they do by themselves
-pub core_stored : (core : List ℕ) (ss : List Stored) → core_after_changes core (map Stores ss) ≡ core_after core ss
+pub core_stored : (core : List ℕ) (ss : List Stored) → core_after_changes core (map StoresCell ss) ≡ core_after core ss
 core_stored core [] = refl
 core_stored core (s ∷ ss) = core_stored (store core s.at s.digit) ss
 
 -- and leave the panel
-pub panel_stored : (panel : Panel) (ss : List Stored) → panel_after_changes panel (map Stores ss) ≡ panel
+pub panel_stored : (panel : Panel) (ss : List Stored) → panel_after_changes panel (map StoresCell ss) ≡ panel
 panel_stored panel [] = refl
 panel_stored panel (s ∷ ss) = panel_stored panel ss
 

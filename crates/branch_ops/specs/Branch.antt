@@ -12,7 +12,7 @@ use Rattle.indicators.specs.declared.Panel.{Panel}
 use Rattle.indicators.specs.Panel.{on}
 use Rattle.indicators.specs.Lamps.{test_lamps}
 use Rattle.traces.specs.Trace.{Trace, ends, does_all, ◌>>=◌, lift, with_answer}
-use Rattle.traces.specs.Change.{Change, Stores, Lights}
+use Rattle.traces.specs.Change.{Change, StoresCell, Lights}
 use Rattle.field_moves.specs.Move.{move_field}
 use Rattle.branch_ops.specs.declared.Regs.{Regs}
 use Rattle.branch_ops.specs.Registers.{on_at}
@@ -45,7 +45,7 @@ go_if r test to = on_at r (if test then to else r.ir + 12)
 abbrev pub transmit : List ℕ → Regs → ℕ → ℕ → Trace Change Regs Stop
 transmit core r p q =
     if p == 0 then ends (Err Address)
-    else with_answer (λ _. record { ir = p; ir2 = r.ir + 12 }) (lift Stores (move_field core (p - 1) q))
+    else with_answer (λ _. record { ir = p; ir2 = r.ir + 12 }) (lift StoresCell (move_field core (p - 1) q))
 
 -- BD, BNF, BNR, BNG: P is gone to where the digit at Q passes a test
 abbrev pub go_by_digit : List ℕ → Regs → ℕ → ℕ → (Digit → Bool) → Trace Change Regs Stop

@@ -6,18 +6,18 @@ use Rattle.indicators.specs.declared.Panel.{Panel}
 use Rattle.indicators.specs.Panel.{set}
 use Rattle.addr_indirect.specs.declared.Stop.{Stop}
 use Rattle.traces.specs.Trace.{Trace, and_then, after_answer}
-use Rattle.traces.specs.Change.{Change, Stores, Lights, Changed, core_after_changes, panel_after_changes}
+use Rattle.traces.specs.Change.{Change, StoresCell, Lights, Changed, core_after_changes, panel_after_changes}
 use Rattle.card_code.proofs.TextsStored.{Rest}
 
 -- some changes, and then others
 core_in_parts : (core : List ℕ) (cs ds : List Change) → core_after_changes core (cs ++ ds) ≡ core_after_changes (core_after_changes core cs) ds
 core_in_parts core [] ds = refl
-core_in_parts core (Stores s ∷ cs) ds = core_in_parts (store core s.at s.digit) cs ds
+core_in_parts core (StoresCell s ∷ cs) ds = core_in_parts (store core s.at s.digit) cs ds
 core_in_parts core (Lights l ∷ cs) ds = core_in_parts core cs ds
 
 panel_in_parts : (panel : Panel) (cs ds : List Change) → panel_after_changes panel (cs ++ ds) ≡ panel_after_changes (panel_after_changes panel cs) ds
 panel_in_parts panel [] ds = refl
-panel_in_parts panel (Stores s ∷ cs) ds = panel_in_parts panel cs ds
+panel_in_parts panel (StoresCell s ∷ cs) ds = panel_in_parts panel cs ds
 panel_in_parts panel (Lights l ∷ cs) ds = panel_in_parts (set l.code l.to panel) cs ds
 
 module _ (core mid start : List ℕ) (panel mid_panel start_panel : Panel) (whole : Trace Change ⊤ Stop) where

@@ -5,7 +5,7 @@ use Rattle.digit_core.specs.Cell.{store}
 use Rattle.indicators.specs.declared.Panel.{Panel}
 use Rattle.indicators.specs.Panel.{set}
 use Rattle.outside_io.specs.Frame.{Tells}
-use Rattle.traces.specs.Change.{Change, Stores, Lights, core_after_changes, panel_after_changes}
+use Rattle.traces.specs.Change.{Change, StoresCell, Lights, core_after_changes, panel_after_changes}
 use Rattle.card_code.specs.Entries.{Entry, behind}
 use Rattle.card_code.specs.TextIn.{Changes, desk_after}
 
@@ -13,7 +13,7 @@ use Rattle.card_code.specs.TextIn.{Changes, desk_after}
 pub changes_in : (changes : List Change) (core : List ℕ) (panel : Panel) (left : List Entry)
     → desk_after (record { core = core; panel = panel; left = left }) (map Changes changes) ≡ record { core = core_after_changes core changes; panel = panel_after_changes panel changes; left = left }
 changes_in [] core panel left = refl
-changes_in (Stores s ∷ changes) core panel left = changes_in changes (store core s.at s.digit) panel left
+changes_in (StoresCell s ∷ changes) core panel left = changes_in changes (store core s.at s.digit) panel left
 changes_in (Lights l ∷ changes) core panel left = changes_in changes core (set l.code l.to panel) left
 
 -- where some entries are the told ones, what is behind their front is told too

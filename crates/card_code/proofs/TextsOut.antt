@@ -8,18 +8,18 @@ use Rattle.outside_io.specs.declared.host.Unit as unit
 use Rattle.outside_io.specs.World.{Seen, Goes, world_after_put}
 use Rattle.outside_io.proofs.Worlds.{adds_on}
 use Rattle.traces.specs.Trace.{Trace}
-use Rattle.card_code.specs.TextOut.{Output, Writes, Warns, with_pair, written_char, panel_after_pair, bytes_out, lamps_of}
+use Rattle.card_code.specs.TextOut.{Output, WritesByte, Warns, with_pair, written_char, panel_after_pair, bytes_out, lamps_of}
 use Rattle.card_code.specs.Written.{CarriedOut}
 
 -- the bytes of two lists of effects, and their lamps
 pub bytes_of-append : (es fs : List Output) → bytes_out (es ++ fs) ≡ bytes_out es ++ bytes_out fs
 bytes_of-append [] fs = refl
-bytes_of-append (Writes b ∷ es) fs = ap (λ (x : List ℕ). b ∷ x) (bytes_of-append es fs)
+bytes_of-append (WritesByte b ∷ es) fs = ap (λ (x : List ℕ). b ∷ x) (bytes_of-append es fs)
 bytes_of-append (Warns l ∷ es) fs = bytes_of-append es fs
 
 pub lamps_of-append : (es fs : List Output) → lamps_of (es ++ fs) ≡ lamps_of es ++ lamps_of fs
 lamps_of-append [] fs = refl
-lamps_of-append (Writes b ∷ es) fs = lamps_of-append es fs
+lamps_of-append (WritesByte b ∷ es) fs = lamps_of-append es fs
 lamps_of-append (Warns l ∷ es) fs = ap (λ (x : List Lamp). l ∷ x) (lamps_of-append es fs)
 
 -- the panel after two lists of changes

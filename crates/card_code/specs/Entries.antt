@@ -5,7 +5,7 @@ use Rattle.std.specs.Prelude.{ℕ, Bool, true, false, ◌-◌, List, [], ◌∷�
 use Rattle.outside_io.specs.declared.host.Unit as unit
 use Rattle.outside_io.specs.declared.host.Unit.TheVariants as units
 use Rattle.outside_io.specs.World.{one_more, World}
-use Rattle.traces.specs.Break.{Break, Empty, NoKeys, Jam}
+use Rattle.traces.specs.Break.{Break, Empty, NoKeys, JamsAt}
 use Rattle.outside_io.specs.Lines.{texts_of}
 
 -- a text of at most 80 bytes, or a longer line, with its number in its unit
@@ -57,10 +57,10 @@ pub record Taken : Type 0 where
 abbrev pub next_card : List Entry → Result Taken Break
 next_card [] = Err Empty
 next_card (Text text ∷ es) = Ok (record { text = text_as_card text; last = has_none_left es })
-next_card (Long u n ∷ es) = Err (Jam u n)
+next_card (Long u n ∷ es) = Err (JamsAt u n)
 
 -- the next line of the keyboard
 abbrev pub next_keys : List Entry → Result (List ℕ) Break
 next_keys [] = Err NoKeys
 next_keys (Text text ∷ es) = Ok text
-next_keys (Long u n ∷ es) = Err (Jam u n)
+next_keys (Long u n ∷ es) = Err (JamsAt u n)

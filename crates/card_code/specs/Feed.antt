@@ -8,7 +8,7 @@ use Rattle.traces.specs.Trace.{Trace, does, ◌>>=◌, lift}
 use Rattle.traces.specs.Change.{Change}
 use Rattle.traces.specs.Break.{Break, stop_as_break}
 use Rattle.card_code.specs.Entries.{Entry, behind}
-use Rattle.card_code.specs.TextIn.{Intake, Takes, Changes, Desk, desk_after}
+use Rattle.card_code.specs.TextIn.{Intake, TakesText, Changes, Desk, desk_after}
 
 -- how entries are taken from an S: what it has left, where that's told, what may happen outside, and what comes of what is left
 pub record Feed (S A : Type 0) : Type 1 where
@@ -48,7 +48,7 @@ abbrev pub take_next : {A : Type 0} → (List Entry → Result A Break) → List
     → Trace Intake ⊤ Break
 take_next next left stored = do
   what ← next left
-  does Takes (lift Changes (stop_as_break (stored what)))
+  does TakesText (lift Changes (stop_as_break (stored what)))
 
 -- core, panel, an S that is read from, and what is seen outside: as a reading finds them, or leaves them
 pub record Station (S : Type 0) : Type 0 where

@@ -9,7 +9,7 @@ use Rattle.indicators.specs.Panel.{set}
 use Rattle.addr_indirect.specs.declared.Stop.{Stop}
 use Rattle.addr_indirect.specs.declared.Stop.TheVariants.{Address}
 use Rattle.traces.specs.Trace.{Trace, ends}
-use Rattle.traces.specs.Change.{Change, Stores, Lights, store_first, light_first}
+use Rattle.traces.specs.Change.{Change, StoresCell, Lights, store_first, light_first}
 use Rattle.card_code.specs.Characters.{num_of}
 use Rattle.card_code.specs.Pairs.{Pair, alpha_of}
 use Rattle.card_code.specs.Entries.{Entry, behind}
@@ -17,7 +17,7 @@ use Rattle.indicators.specs.declared.codes.TheConstants.{READ_CHECK}
 
 -- what reading a text does: it's taken from its unit, and then core and panel change
 pub data Intake : Type 0 where
-  Takes : Intake
+  TakesText : Intake
   Changes : (c : Change) → Intake
 
 -- a digit is stored, where there is such a position
@@ -59,8 +59,8 @@ pub record Desk : Type 0 where
 
 -- after one effect of a reading
 abbrev pub desk_after_one : Desk → Intake → Desk
-desk_after_one d Takes = record d { left = behind d.left }
-desk_after_one d (Changes (Stores s)) = record d { core = store d.core s.at s.digit }
+desk_after_one d TakesText = record d { left = behind d.left }
+desk_after_one d (Changes (StoresCell s)) = record d { core = store d.core s.at s.digit }
 desk_after_one d (Changes (Lights l)) = record d { panel = set l.code l.to d.panel }
 
 -- after all of them

@@ -11,7 +11,7 @@ use Rattle.indicators.specs.declared.codes.TheConstants.{WRITE_CHECK}
 
 -- what writing a text of pairs does: a byte goes out, or an indicator changes
 pub data Output : Type 0 where
-  Writes : (byte : ℕ) → Output
+  WritesByte : (byte : ℕ) → Output
   Warns : (l : Lamp) → Output
 
 -- the character of two digits, whose flags are ignored
@@ -35,10 +35,10 @@ panel_after_pair None panel = set WRITE_CHECK true panel
 -- the bytes that go out, and the changes of indicators
 abbrev pub bytes_out : List Output → List ℕ
 bytes_out [] = []
-bytes_out (Writes b ∷ es) = b ∷ bytes_out es
+bytes_out (WritesByte b ∷ es) = b ∷ bytes_out es
 bytes_out (Warns l ∷ es) = bytes_out es
 
 abbrev pub lamps_of : List Output → List Lamp
 lamps_of [] = []
-lamps_of (Writes b ∷ es) = lamps_of es
+lamps_of (WritesByte b ∷ es) = lamps_of es
 lamps_of (Warns l ∷ es) = l ∷ lamps_of es

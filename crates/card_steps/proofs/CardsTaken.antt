@@ -3,11 +3,11 @@ use Rattle.std.proofs.Common.{ℕ, ◌≡◌, List, [], ◌∷◌, ◌++◌, map
 use Rattle.std.proofs.lemmas.List.{append_cancel_right, map-append}
 use Rattle.outside_io.specs.Events.{Event, TakeCard}
 use Rattle.traces.specs.Stored.{Stored}
-use Rattle.traces.specs.Change.{Change, Stores, Lights}
+use Rattle.traces.specs.Change.{Change, StoresCell, Lights}
 use Rattle.card_code.specs.Entries.{Entry, Text}
 use Rattle.card_code.specs.TextIn.{Changes}
 use Rattle.cpu_step.specs.State.{State}
-use Rattle.cpu_step.specs.Effects.{Cell, of_cards}
+use Rattle.cpu_step.specs.Effects.{CellStored, of_cards}
 use Rattle.cpu_step.specs.Step.{instruction, step}
 use Rattle.cpu_step.specs.Outside.{all_outside}
 use Rattle.card_steps.specs.Steps.{deck_taken}
@@ -33,13 +33,13 @@ deck_gone ds deck hopper rest is taken =
     texts_taken (c ∷ cs) = ap (λ (fs : List Event). TakeCard ∷ fs) (texts_taken cs)
 
 -- what stays in core does nothing outside
-pub cells_outside : (ss : List Stored) → all_outside (map Cell ss) ≡ []
+pub cells_outside : (ss : List Stored) → all_outside (map CellStored ss) ≡ []
 cells_outside [] = refl
 cells_outside (s ∷ ss) = cells_outside ss
 
 pub changes_outside : (cs : List Change) → all_outside (map of_cards (map Changes cs)) ≡ []
 changes_outside [] = refl
-changes_outside (Stores s ∷ cs) = changes_outside cs
+changes_outside (StoresCell s ∷ cs) = changes_outside cs
 changes_outside (Lights l ∷ cs) = changes_outside cs
 
 -- a step leads to a state, and does nothing outside but the taking of cards

@@ -6,7 +6,7 @@ use Rattle.addr_indirect.specs.declared.Stop.{Stop}
 use Rattle.outside_io.specs.World.{Seen}
 use Rattle.traces.specs.Trace.{Trace, map_reason}
 use Rattle.traces.specs.Change.{Change, Changed}
-use Rattle.traces.specs.Break.{Break, Stops}
+use Rattle.traces.specs.Break.{Break, StopsBy}
 use Rattle.card_code.specs.Entries.{Entry}
 use Rattle.card_code.specs.TextIn.{Intake}
 use Rattle.card_code.specs.Feed.{Station, station, GivesEntry, Lacks, ReadsAll}
@@ -19,7 +19,7 @@ use Rattle.card_unit.specs.Reader.{store_card, take_card}
 use Rattle.card_unit.specs.CardCalls.{ReadsCardBy, card_stored_ending, panel_after_card}
 
 -- a reading's answer is that of the call
-reads_by : (t : List Entry → Trace Intake ⊤ Break) (old new : Station Hopper) (answer : Result ⊤ Stop) (got : CardIo) → got ≡ card_stored_ending answer → ReadsAll hopper_feed t old new (map_reason Stops answer) → ReadsCardBy t old new got
+reads_by : (t : List Entry → Trace Intake ⊤ Break) (old new : Station Hopper) (answer : Result ⊤ Stop) (got : CardIo) → got ≡ card_stored_ending answer → ReadsAll hopper_feed t old new (map_reason StopsBy answer) → ReadsCardBy t old new got
 reads_by t old new (Ok done) got ends all = subst (λ (x : CardIo). ReadsCardBy t old new x) (sym ends) all
 reads_by t old new (Err why) got ends all = subst (λ (x : CardIo). ReadsCardBy t old new x) (sym ends) all
 
@@ -32,7 +32,7 @@ module _ (store_text : List ℕ → Trace Change ⊤ Stop) where
 
     -- so what it leaves is what the reading leaves
     card_read : (old next : Hopper) (before after : Seen) (last : Bool) → GivesEntry hopper_feed old next before after (record { text = text; last = last })
-        → Changed core (panel_after_card last panel) (store_text text) new new_panel answer → ReadsAll hopper_feed (λ es. take_card es store_text) (station core panel old before) (station new new_panel next after) (map_reason Stops answer)
+        → Changed core (panel_after_card last panel) (store_text text) new new_panel answer → ReadsAll hopper_feed (λ es. take_card es store_text) (station core panel old before) (station new new_panel next after) (map_reason StopsBy answer)
     card_read old next before after last gives stored =
         entry_read hopper_feed (store_card store_text) (station core panel old before) (station new new_panel next after) (record { text = text; last = last }) answer gives (card_stored last stored)
 

@@ -5,7 +5,7 @@ use Rattle.outside_io.specs.declared.host.Unit as unit
 use Rattle.outside_io.specs.declared.host.Unit.TheVariants as units
 use Rattle.outside_io.specs.Frame.{ToldValue}
 use Rattle.outside_io.proofs.Frames.{give}
-use Rattle.traces.specs.Break.{Empty, Jam}
+use Rattle.traces.specs.Break.{Empty, JamsAt}
 use Rattle.card_code.specs.Entries.{Entry, Text, Long, behind, has_none_left, next_card, text_as_card, entries_of_unit, hopper_of}
 use Rattle.card_code.specs.declared.Card.{Card}
 use Rattle.card_code.specs.Reader.{Fronts, HasNone, HasSome}
@@ -33,13 +33,13 @@ jam_data u n (Some es) (Some fs) none front =
     whole ∙ ap (λ (x : List Entry). Long u n ∷ x) (sym (ap behind whole))
 
 -- a jam at the front is why no card is taken
-long_lacks : (u : unit.Unit) (n : ℕ) (told : Told) → Fronts (Long u n) told → IfSome told (λ es. next_card es ≡ Err (Jam u n))
+long_lacks : (u : unit.Unit) (n : ℕ) (told : Told) → Fronts (Long u n) told → IfSome told (λ es. next_card es ≡ Err (JamsAt u n))
 long_lacks u n None front = tt
 long_lacks u n (Some es) front = ap next_card front
 
 -- with some entries that are so, where none are told
-pub given_long : (u : unit.Unit) (n : ℕ) (told : Told) → Fronts (Long u n) told → ToldValue told (λ es. next_card es ≡ Err (Jam u n))
-given_long u n told front = give told (λ es. next_card es ≡ Err (Jam u n)) (Long u n ∷ []) refl (long_lacks u n told front)
+pub given_long : (u : unit.Unit) (n : ℕ) (told : Told) → Fronts (Long u n) told → ToldValue told (λ es. next_card es ≡ Err (JamsAt u n))
+given_long u n told front = give told (λ es. next_card es ≡ Err (JamsAt u n)) (Long u n ∷ []) refl (long_lacks u n told front)
 
 -- no entry in the pile and none in the data are none at all
 none_joined : (pile rest : Told) → HasNone pile → HasNone rest → HasNone (entries_in_order [] pile rest)

@@ -6,7 +6,7 @@ use Rattle.outside_io.specs.declared.host.Unit.TheVariants as units
 use Rattle.outside_io.specs.World.{World, Seen, same_unit}
 use Rattle.outside_io.specs.Frame.{ToldValue, Keeps}
 use Rattle.outside_io.proofs.Frames.{keeps_on, keeps_taken}
-use Rattle.traces.specs.Break.{Empty, Jam}
+use Rattle.traces.specs.Break.{Empty, JamsAt}
 use Rattle.card_code.specs.declared.lines.Lines.{Lines}
 use Rattle.card_code.specs.declared.lines.More.{More}
 use Rattle.card_code.specs.declared.lines.More.TheVariants as more
@@ -94,7 +94,7 @@ module _ (old new : Hopper) (before after : Seen) (front : new.front ≡ old.fro
   }
 
   -- its front line is too long
-  pile_jams : (u : unit.Unit) (n : ℕ) → old.front ≡ None → Fronts (Long u n) (pile_left old.pile before.world) → Lacks hopper_feed old new before after (Jam u n)
+  pile_jams : (u : unit.Unit) (n : ℕ) → old.front ≡ None → Fronts (Long u n) (pile_left old.pile before.world) → Lacks hopper_feed old new before after (JamsAt u n)
   pile_jams u n none long = record {
     stays = pile_stays;
     given = given_long u n (hopper_left old before.world)
@@ -133,7 +133,7 @@ module _ (old new : Hopper) (mid : Pile) (before between after : Seen) (looks : 
   }
 
   -- the data's front line is too long
-  rest_jams : (u : unit.Unit) (n : ℕ) → old.front ≡ None → HasNone (pile_left old.pile before.world) → Fronts (Long u n) (entries_left old.data between.world) → Lacks hopper_feed old new before after (Jam u n)
+  rest_jams : (u : unit.Unit) (n : ℕ) → old.front ≡ None → HasNone (pile_left old.pile before.world) → Fronts (Long u n) (entries_left old.data between.world) → Lacks hopper_feed old new before after (JamsAt u n)
   rest_jams u n none over long = record {
     stays = rest_stays;
     given = given_long u n (hopper_left old before.world)

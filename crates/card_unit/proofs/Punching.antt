@@ -11,7 +11,7 @@ use Rattle.outside_io.specs.Whole.{Stops}
 use Rattle.outside_io.proofs.Worlds.{added_to-nil, adds_on}
 use Rattle.addr_indirect.specs.declared.Stop.{Stop}
 use Rattle.traces.specs.Trace.{Trace, ends, after_answer, lift}
-use Rattle.card_code.specs.TextOut.{Output, Writes, bytes_out, lamps_of}
+use Rattle.card_code.specs.TextOut.{Output, WritesByte, bytes_out, lamps_of}
 use Rattle.card_code.specs.Written.{Wrote, WroteFirst, CarriedOut, WrotePairs, WroteFirstPairs}
 use Rattle.card_code.proofs.TextsOut.{bytes_of-append, lamps_of-append}
 use Rattle.card_unit.specs.declared.reader.CardIo.{CardIo}
@@ -56,23 +56,23 @@ card_broken text t now after stops = record {
 }
 
 -- bytes alone, as effects
-writes_bytes : (bytes : List ℕ) → bytes_out (map Writes bytes) ≡ bytes
+writes_bytes : (bytes : List ℕ) → bytes_out (map WritesByte bytes) ≡ bytes
 writes_bytes [] = refl
 writes_bytes (b ∷ bytes) = ap (λ (x : List ℕ). b ∷ x) (writes_bytes bytes)
 
-writes_no_lamp : (bytes : List ℕ) → lamps_of (map Writes bytes) ≡ []
+writes_no_lamp : (bytes : List ℕ) → lamps_of (map WritesByte bytes) ≡ []
 writes_no_lamp [] = refl
 writes_no_lamp (b ∷ bytes) = writes_no_lamp bytes
 
-take_writes : (n : ℕ) (bytes : List ℕ) → take n (map Writes bytes) ≡ map Writes (take n bytes)
-take_writes n bytes = take-map Writes n bytes
+take_writes : (n : ℕ) (bytes : List ℕ) → take n (map WritesByte bytes) ≡ map WritesByte (take n bytes)
+take_writes n bytes = take-map WritesByte n bytes
 
 -- Pairs were read, with these changes of the panel, and then these bytes went out.
 module _ (es : List Output) (panel new_panel : Panel) (silent : bytes_out es ≡ []) (seen : new_panel ≡ panel_after panel (lamps_of es)) where
-  put_all : (bytes : List ℕ) (now after : Seen) → Goes now after (world_after_put units.Punched bytes now.world) → CarriedOut units.Punched (es ++ map Writes bytes) panel now new_panel after
+  put_all : (bytes : List ℕ) (now after : Seen) → Goes now after (world_after_put units.Punched bytes now.world) → CarriedOut units.Punched (es ++ map WritesByte bytes) panel now new_panel after
   put_all bytes now after goes =
-      let all : bytes_out (es ++ map Writes bytes) ≡ bytes = bytes_of-append es (map Writes bytes) ∙ ap (λ (x : List ℕ). x ++ bytes_out (map Writes bytes)) silent ∙ writes_bytes bytes in
-      let lamps : lamps_of (es ++ map Writes bytes) ≡ lamps_of es = lamps_of-append es (map Writes bytes) ∙ ap (λ (x : List Lamp). lamps_of es ++ x) (writes_no_lamp bytes) ∙ append-nil (lamps_of es) in
+      let all : bytes_out (es ++ map WritesByte bytes) ≡ bytes = bytes_of-append es (map WritesByte bytes) ∙ ap (λ (x : List ℕ). x ++ bytes_out (map WritesByte bytes)) silent ∙ writes_bytes bytes in
+      let lamps : lamps_of (es ++ map WritesByte bytes) ≡ lamps_of es = lamps_of-append es (map WritesByte bytes) ∙ ap (λ (x : List Lamp). lamps_of es ++ x) (writes_no_lamp bytes) ∙ append-nil (lamps_of es) in
       record {
         goes = subst (λ (x : List ℕ). Goes now after (world_after_put units.Punched x now.world)) (sym all) goes;
         shows = seen ∙ ap (λ (x : List Lamp). panel_after panel x) (sym lamps);
@@ -80,7 +80,7 @@ module _ (es : List Output) (panel new_panel : Panel) (silent : bytes_out es ≡
 
   -- what follows the reading of the pairs
   abbrev pub then_card : Result (List ℕ) Stop → Trace Output ⊤ Stop
-  then_card text = after_answer es text (λ text. lift Writes (punch_card text (ends (Ok tt))))
+  then_card text = after_answer es text (λ text. lift WritesByte (punch_card text (ends (Ok tt))))
 
   -- a stop, and no card goes out
   pub pairs_stopped : (r : Result (List ℕ) Stop) (why : Stop) (now : Seen) → Err why ≡ r → WrotePairs units.Punched (then_card r) panel now new_panel now (Err why)
@@ -97,9 +97,9 @@ module _ (es : List Output) (panel new_panel : Panel) (silent : bytes_out es ≡
   -- the host failed within the card
   pub pairs_broken : (r : Result (List ℕ) Stop) (text : List ℕ) (now after : Seen) → Ok text ≡ r → Stops now after units.Punched (line text) → WroteFirstPairs units.Punched (then_card r) panel now new_panel after
   pairs_broken r text now after is stops =
-      let first : take (length es + length stops.written) (es ++ map Writes (line text ++ [])) ≡ es ++ map Writes stops.written =
-      take-append-add es (map Writes (line text ++ [])) (length stops.written)
-      ∙ ap (λ (x : List Output). es ++ x) (take_writes (length stops.written) (line text ++ []) ∙ ap (λ (x : List ℕ). map Writes x) (part_of stops.written stops.rest (line text) [] stops.parts)) in
+      let first : take (length es + length stops.written) (es ++ map WritesByte (line text ++ [])) ≡ es ++ map WritesByte stops.written =
+      take-append-add es (map WritesByte (line text ++ [])) (length stops.written)
+      ∙ ap (λ (x : List Output). es ++ x) (take_writes (length stops.written) (line text ++ []) ∙ ap (λ (x : List ℕ). map WritesByte x) (part_of stops.written stops.rest (line text) [] stops.parts)) in
       subst (λ (r : Result (List ℕ) Stop). WroteFirstPairs units.Punched (then_card r) panel now new_panel after) is
       (record {
         done = length es + length stops.written;

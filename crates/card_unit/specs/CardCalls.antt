@@ -6,7 +6,7 @@ use Rattle.outside_io.specs.declared.host.Unit.TheVariants as units
 use Rattle.outside_io.specs.World.{World, Seen}
 use Rattle.addr_indirect.specs.declared.Stop.{Stop}
 use Rattle.traces.specs.Trace.{Trace}
-use Rattle.traces.specs.Break.{Break, Stops, Empty, Jam}
+use Rattle.traces.specs.Break.{Break, StopsBy, Empty, JamsAt}
 use Rattle.card_code.specs.{Entry, Intake, Output, Wrote, WroteFirst, WrotePairs, WroteFirstPairs}
 use Rattle.read_checks.specs.declared.ReadAs.{ReadAs}
 use Rattle.read_checks.specs.Readings.{Reading, bad_from, with_bad}
@@ -24,9 +24,9 @@ panel_after_card last panel = if last then set LAST_CARD true panel else panel
 -- how a reading ended; None where the host failed
 abbrev pub card_reading_ending : CardIo → Option (Result ⊤ Break)
 card_reading_ending io.Done = Some (Ok tt)
-card_reading_ending (io.Stop why) = Some (Err (Stops why))
+card_reading_ending (io.Stop why) = Some (Err (StopsBy why))
 card_reading_ending io.Empty = Some (Err Empty)
-card_reading_ending (io.Jam u n) = Some (Err (Jam u n))
+card_reading_ending (io.Jam u n) = Some (Err (JamsAt u n))
 card_reading_ending io.Failed = None
 
 -- what a reading with the trace t does

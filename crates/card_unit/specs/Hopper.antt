@@ -3,7 +3,7 @@ use Rattle.std.specs.Prelude.{ℕ, ◌≡◌, ◌≤◌, ◌+◌, ◌-◌, ◌�
 use Rattle.outside_io.specs.declared.host.Unit as unit
 use Rattle.outside_io.specs.declared.host.Unit.TheVariants as units
 use Rattle.outside_io.specs.World.{World, Seen}
-use Rattle.traces.specs.Break.{Break, Empty, Jam}
+use Rattle.traces.specs.Break.{Break, Empty, JamsAt}
 use Rattle.card_code.specs.declared.Card.{Card}
 use Rattle.card_code.specs.declared.lines.Lines.{Lines}
 use Rattle.card_code.specs.declared.lines.More.{More}
@@ -71,7 +71,7 @@ hopper_feed = record { left = hopper_left; Looks = LooksAtHopper; next = next_ca
 abbrev pub card_ending : CardAnswer → Option (Result Taken Break)
 card_ending (answer.Card card last) = Some (Ok (record { text = card.0; last = last }))
 card_ending answer.Empty = Some (Err Empty)
-card_ending (answer.Jam u n) = Some (Err (Jam u n))
+card_ending (answer.Jam u n) = Some (Err (JamsAt u n))
 card_ending answer.Failed = None
 
 -- what the taking of a card does
@@ -82,7 +82,7 @@ NextCard old new before after got = TakesNext hopper_feed old new before after (
 abbrev pub Holds : Hopper → Hopper → Seen → Seen → Held → Type 0
 Holds old new before after held.AtFront = Stays hopper_feed old new before after
 Holds old new before after held.Empty = Lacks hopper_feed old new before after Empty
-Holds old new before after (held.Jam u n) = Lacks hopper_feed old new before after (Jam u n)
+Holds old new before after (held.Jam u n) = Lacks hopper_feed old new before after (JamsAt u n)
 Holds old new before after held.Failed = FailsToTake hopper_feed old new before after
 
 -- whether nothing stands behind the front

@@ -7,7 +7,7 @@ use Rattle.addr_indirect.specs.declared.Stop.{Stop}
 use Rattle.addr_indirect.specs.Reading.{read_at, read_up, or_stop}
 use Rattle.traces.specs.Trace.{Trace, ends, does_all, ◌>>=◌, and_then, with_answer, lift, map_answer}
 use Rattle.card_code.specs.declared.Card.{Card}
-use Rattle.card_code.specs.{punch_num, text_as_card, Output, Writes, with_pair, pair_char}
+use Rattle.card_code.specs.{punch_num, text_as_card, Output, WritesByte, with_pair, pair_char}
 
 -- the line of a card's text
 abbrev pub card_line : List ℕ → List ℕ
@@ -33,7 +33,7 @@ pair_text core a (suc n) = do
 
 -- WA on a card: the 80 pairs from P-1 and P
 abbrev pub punch_alphameric : List ℕ → ℕ → Trace Output ⊤ Stop
-punch_alphameric core p = and_then (pair_text core (p - 1) 80) (λ text. lift Writes (punch_card text (ends (Ok tt))))
+punch_alphameric core p = and_then (pair_text core (p - 1) 80) (λ text. lift WritesByte (punch_card text (ends (Ok tt))))
 
 -- cells from a upwards, 80 on a card, behind the text that the card has so far
 unfoldable pub dump_card_cells : ℕ → List ℕ → List ℕ → Trace ℕ ⊤ Stop

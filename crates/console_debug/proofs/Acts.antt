@@ -20,7 +20,7 @@ use Rattle.operator_script.specs.TurnEvents.{turning_events, turn_events}
 use Rattle.operator_script.proofs.LastPlace.{last_on}
 use Rattle.operator_script.proofs.Running.{place_is}
 use Rattle.operator_script.proofs.TurnEventLemmas.{TurnTakes, turn_takes, TurnDoes, turn_does, DoesPart, due_front}
-use Rattle.console_debug.specs.Session.{Course, Act, Line, Turn, nth_place, turns_from, place_as_seen, act_events, session_events, turns_in}
+use Rattle.console_debug.specs.Session.{Course, Act, PrintsLine, MakesTurn, nth_place, turns_from, place_as_seen, act_events, session_events, turns_in}
 use Rattle.console_debug.proofs.Courses.{last_next}
 
 -- LISTS OF ACTS
@@ -37,12 +37,12 @@ events_more c xs a = events_append c xs (a ∷ []) ∙ ap (λ (ds : List Event).
 
 pub turns_append : (xs ys : List Act) → turns_in (xs ++ ys) ≡ turns_in xs + turns_in ys
 turns_append [] ys = omega arith
-turns_append (Line at text ∷ xs) ys = turns_append xs ys
-turns_append (Turn from ∷ xs) ys = let rest = turns_append xs ys in omega (arith, rest)
+turns_append (PrintsLine at text ∷ xs) ys = turns_append xs ys
+turns_append (MakesTurn from ∷ xs) ys = let rest = turns_append xs ys in omega (arith, rest)
 
 -- a line is no turn
-pub turns_line : (xs : List Act) (at : ℕ) (text : List ℕ) → turns_in (xs ++ Line at text ∷ []) ≡ turns_in xs
-turns_line xs at text = let all = turns_append xs (Line at text ∷ []) in omega (arith, all)
+pub turns_line : (xs : List Act) (at : ℕ) (text : List ℕ) → turns_in (xs ++ PrintsLine at text ∷ []) ≡ turns_in xs
+turns_line xs at text = let all = turns_append xs (PrintsLine at text ∷ []) in omega (arith, all)
 
 pub turns_of : (n k : ℕ) → turns_in (turns_from n k) ≡ k
 unfolding turns_from
@@ -59,10 +59,10 @@ turns_more n zero k =
 turns_more n (suc j) k =
     let one : suc j + k ≡ suc (j + k) = omega arith in
     let next : suc n + j ≡ n + suc j = omega arith in
-    ap (turns_from n) one ∙ ap (λ (acts : List Act). Turn n ∷ acts) (turns_more (suc n) j k ∙ ap (λ i. turns_from (suc n) j ++ turns_from i k) next)
+    ap (turns_from n) one ∙ ap (λ (acts : List Act). MakesTurn n ∷ acts) (turns_more (suc n) j k ∙ ap (λ i. turns_from (suc n) j ++ turns_from i k) next)
 
 -- and then one
-pub turns_next : (n k : ℕ) → turns_from n (suc k) ≡ turns_from n k ++ Turn (n + k) ∷ []
+pub turns_next : (n k : ℕ) → turns_from n (suc k) ≡ turns_from n k ++ MakesTurn (n + k) ∷ []
 unfolding turns_from
 turns_next n k =
     let one : suc k ≡ k + 1 = omega arith in
@@ -162,7 +162,7 @@ module _ (m : ℕ) (c : Course) (n f : ℕ) (old new : RunState m) (before after
 
   -- and a part of the next
   pub did_cut : (k : ℕ) (q : RunPlace) → IsCutTurn c.limit (nth_place c (f + k)) q → place_of m new after.world ≡ Some q
-      → (part : List Event) × IsFirstPart part (act_events c (Turn (f + k))) × DidAll (session_events c (turns_from f k) ++ part) before.world after.world
+      → (part : List Event) × IsFirstPart part (act_events c (MakesTurn (f + k))) × DidAll (session_events c (turns_from f k) ++ part) before.world after.world
       × HasTaken (nth_place c f).state q.state (session_events c (turns_from f k) ++ part)
   did_cut k q is_cut there =
       let cut = cut_does before.world c.limit (nth_place c (f + k)) q is_cut in

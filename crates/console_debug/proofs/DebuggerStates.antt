@@ -26,7 +26,7 @@ use Rattle.operator_script.specs.Turn.{RunPlace, IsCutTurn}
 use Rattle.operator_script.specs.Run.{RunState, place_with, place_of}
 use Rattle.operator_script.proofs.Running.{place_is}
 use Rattle.sps_pass_two.specs.Assembled.{PlacedText}
-use Rattle.console_debug.specs.Session.{Course, Act, Line, Turn, Session, nth_place, place_as_seen, says, goes_to, turns_from, session_events}
+use Rattle.console_debug.specs.Session.{Course, Act, PrintsLine, MakesTurn, Session, nth_place, place_as_seen, says, goes_to, turns_from, session_events}
 use Rattle.console_debug.specs.CursorStates.{CursorState, IsOn, IsFit, IsLed}
 use Rattle.console_debug.specs.Debugs.{Attends, is_said}
 use Rattle.console_debug.specs.Carries.{DebuggerState, debugger_state, StandsIn, StopsIn, IsCourseOver, Does, FailsInPart, CarriesPart, PartsUnderway}
@@ -136,12 +136,12 @@ module _ (m limit : ℕ) (placed : List PlacedText) (x : CursorState m) (set : L
   said f line sent.Done fit same goes = record {
     told = λ c over start s stands.
         let furthest = (nth_place c s.furthest).state in
-        let taken = act_takes c s.acts (Line s.at line) c.first.state furthest furthest (stands_taken m c here start s stands) (text_takes line furthest) in
+        let taken = act_takes c s.acts (PrintsLine s.at line) c.first.state furthest furthest (stands_taken m c here start s stands) (text_takes line furthest) in
         subst (StandsIn m c after_line start) (sym (same c over start s stands)) (record {
           on_it = still_on line goes c s.at s.furthest stands.on_it;
           breaks_are = stands.breaks_are;
           turns = turns_line s.acts s.at line ∙ stands.turns;
-          did = act_on c s.acts (Line s.at line) start x.seen.world after.world stands.did (did_text units.Report line x.seen.world after.world goes.world);
+          did = act_on c s.acts (PrintsLine s.at line) start x.seen.world after.world stands.did (did_text units.Report line x.seen.world after.world goes.world);
           cards = taken.cards;
           lines = taken.lines;
         });
@@ -155,7 +155,7 @@ module _ (m limit : ℕ) (placed : List PlacedText) (x : CursorState m) (set : L
         let taken = taken_on (session_events c s.acts) part c.first.state furthest furthest (stands_taken m c here start s stands) (text_takes stops.written furthest) in
         subst (StopsIn m c after_line start) (sym (same c over start s stands)) (record {
           done = s.acts;
-          next = Line s.at line;
+          next = PrintsLine s.at line;
           rest = [];
           parts = refl;
           place = place_as_seen (nth_place c s.at) (nth_place c s.furthest);
@@ -321,7 +321,7 @@ module _ (m limit : ℕ) (placed : List PlacedText) where
         let taken = part_takes c s.acts made cut.0 c.first.state (nth_place c s.furthest).state at.place.state (stands_taken m c (debugger_state m old set) start s stands) cut.3 in
         record {
           done = s.acts ++ made;
-          next = Turn (s.furthest + at.turns);
+          next = MakesTurn (s.furthest + at.turns);
           rest = at.makes.more;
           parts = next_turn s (f c s) at.turns at.makes;
           place = at.place;

@@ -5,7 +5,7 @@ use Rattle.std.specs.Prelude.{Option, Some, None, nat_le, max, option_map, ◌-�
 use Rattle.console_debug.specs.declared.commands.DebugCommand.{DebugCommand}
 use Rattle.console_debug.specs.declared.commands.DebugCommand.TheVariants as command
 use Rattle.console_debug.specs.Places.{is_instruction_at, turns_to_step, turns_to_stop}
-use Rattle.console_debug.specs.Session.{Course, Act, Turn, Session, nth_place, places_ahead, turns_from, says, place_line, end_line, goes_to, to_end, to_stop, session_after_step, steps, back, is_kept, session_after, is_quit, session_of}
+use Rattle.console_debug.specs.Session.{Course, Act, MakesTurn, Session, nth_place, places_ahead, turns_from, says, place_line, end_line, goes_to, to_end, to_stop, session_after_step, steps, back, is_kept, session_after, is_quit, session_of}
 use Rattle.console_debug.specs.CursorStates.{turns_or_all}
 use Rattle.console_debug.proofs.Acts.{turns_more, turns_next}
 
@@ -168,10 +168,10 @@ step_makes c n s (Some turns) k below =
     makes_then s k (goes_to (s.at + turns) s) (steps n c (session_after_step c s turns)) (goes_makes s (s.at + turns) k below) (step_onward c n s turns (λ t. steps_onward n c t))
 
 -- so the turns up to one of them are a first part, and it is the next
-pub next_turn : (s t : Session) (k : ℕ) (makes : MakesTurns s (suc k) t) → (s.acts ++ turns_from s.furthest k) ++ Turn (s.furthest + k) ∷ makes.more ≡ t.acts
+pub next_turn : (s t : Session) (k : ℕ) (makes : MakesTurns s (suc k) t) → (s.acts ++ turns_from s.furthest k) ++ MakesTurn (s.furthest + k) ∷ makes.more ≡ t.acts
 next_turn s t k makes =
     let turns = turns_from s.furthest k in
-    let next = Turn (s.furthest + k) ∷ [] in
+    let next = MakesTurn (s.furthest + k) ∷ [] in
     append_assoc s.acts turns (next ++ makes.more)
     ∙ ap (λ (acts : List Act). s.acts ++ acts) (sym (append_assoc turns next makes.more) ∙ ap (λ (acts : List Act). acts ++ makes.more) (sym (turns_next s.furthest k)))
     ∙ sym makes.grows

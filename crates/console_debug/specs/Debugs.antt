@@ -19,7 +19,7 @@ use Rattle.sps_pass_two.specs.Assembled.{PlacedText}
 use Rattle.console_debug.specs.declared.commands.DebugCommand.{DebugCommand}
 use Rattle.console_debug.specs.declared.debugger.SessionEnd.{SessionEnd}
 use Rattle.console_debug.specs.declared.debugger.SessionEnd.TheVariants as end
-use Rattle.console_debug.specs.Session.{Course, Act, Line, Turn, Session, nth_place, session_of, at_first, place_as_seen, place_of_session, act_events, session_events, turns_in}
+use Rattle.console_debug.specs.Session.{Course, Act, PrintsLine, MakesTurn, Session, nth_place, session_of, at_first, place_as_seen, place_of_session, act_events, session_events, turns_in}
 
 -- the units that are written: those of the machine, and Report
 abbrev pub is_said : unit.Unit → Bool
@@ -49,8 +49,8 @@ pub record StandsBy (m : ℕ) (c : Course) (x : Moment m) (breaks : List ℕ) (b
 -- where the machine and its units stand within an act, when so many turns were made before: while a line is printed, at the place of the
 -- line, outside which all is as those turns left it; within a turn, after a part of it
 abbrev pub IsWithinAct : Course → ℕ → Act → RunPlace → Type 0
-IsWithinAct c turns (Line at text) place = place ≡ place_as_seen (nth_place c at) (nth_place c turns)
-IsWithinAct c turns (Turn from) place = IsCutTurn c.limit (nth_place c from) place
+IsWithinAct c turns (PrintsLine at text) place = place ≡ place_as_seen (nth_place c at) (nth_place c turns)
+IsWithinAct c turns (MakesTurn from) place = IsCutTurn c.limit (nth_place c from) place
 
 -- ONE MOMENT within a list of acts: the first of them are done, and a part of the next. The machine, its cards and lines, the script, and
 -- what was printed, punched, typed and written are all of that moment; the cards and the lines of the keyboard that are left are those of the

@@ -29,8 +29,8 @@ places_ahead c n = later c.limit (nth_place c n)
 -- what a session does: a line is printed, while the machine stands at the place with this number; or the turn is made that leads on from
 -- the place with this number
 pub data Act : Type 0 where
-  Line : (at : ℕ) (text : List ℕ) → Act
-  Turn : (from : ℕ) → Act
+  PrintsLine : (at : ℕ) (text : List ℕ) → Act
+  MakesTurn : (from : ℕ) → Act
 
 -- the number of the place where a session stands, that of the furthest place that it has reached, its breakpoints, and all that it has
 -- done, in its order
@@ -41,12 +41,12 @@ pub record Session : Type 0 where
   pub acts : List Act
 
 abbrev pub says : List ℕ → Session → Session
-says line s = record s { acts = s.acts ++ Line s.at line ∷ [] }
+says line s = record s { acts = s.acts ++ PrintsLine s.at line ∷ [] }
 
 -- so many turns, one after another, the first of which leads on from the place with this number
 unfoldable pub turns_from : ℕ → ℕ → List Act
 turns_from n zero = []
-turns_from n (suc k) = Turn n ∷ turns_from (suc n) k
+turns_from n (suc k) = MakesTurn n ∷ turns_from (suc n) k
 
 -- on to the place with a number: the turns behind the furthest place are made, and those up to there, which were made before, are not made
 -- again
@@ -173,8 +173,8 @@ place_of_session c s = place_as_seen (nth_place c s.at) (nth_place c s.furthest)
 -- order in which it does them.
 
 abbrev pub act_events : Course → Act → List Event
-act_events c (Line at text) = text_events units.Report text
-act_events c (Turn from) = turn_events c.limit (nth_place c from)
+act_events c (PrintsLine at text) = text_events units.Report text
+act_events c (MakesTurn from) = turn_events c.limit (nth_place c from)
 
 abbrev pub session_events : Course → List Act → List Event
 session_events c [] = []
@@ -183,5 +183,5 @@ session_events c (a ∷ acts) = act_events c a ++ session_events c acts
 -- how many of some acts are turns
 abbrev pub turns_in : List Act → ℕ
 turns_in [] = 0
-turns_in (Line at text ∷ acts) = turns_in acts
-turns_in (Turn from ∷ acts) = suc (turns_in acts)
+turns_in (PrintsLine at text ∷ acts) = turns_in acts
+turns_in (MakesTurn from ∷ acts) = suc (turns_in acts)

@@ -10,10 +10,10 @@ use Rattle.outside_io.specs.declared.host.Unit.TheVariants as units
 use Rattle.outside_io.specs.World.{Seen, same_unit}
 use Rattle.outside_io.specs.Frame.{Tells}
 use Rattle.traces.specs.Trace.{Trace, map_answer}
-use Rattle.traces.specs.Change.{Stores, Lights}
-use Rattle.traces.specs.Break.{Break, Stops, Empty, Jam}
+use Rattle.traces.specs.Change.{StoresCell, Lights}
+use Rattle.traces.specs.Break.{Break, StopsBy, Empty, JamsAt}
 use Rattle.card_code.specs.Entries.{Entry, behind}
-use Rattle.card_code.specs.TextIn.{Intake, Takes, Changes, Desk, desk_after}
+use Rattle.card_code.specs.TextIn.{Intake, TakesText, Changes, Desk, desk_after}
 use Rattle.card_unit.specs.Hopper.{hopper_left, own_cards, hopper_feed, LooksAtHopper, GoesOnReadingCards}
 use Rattle.card_unit.specs.Pile.{is_card_unit}
 use Rattle.typewriter.specs.declared.keyboard.Keyboard.{Keyboard}
@@ -27,7 +27,7 @@ use Rattle.card_code.specs.Feed.{station, ReadsAll, ReadsNone}
 use Rattle.cpu_step.specs.declared.machine.Machine.{Machine}
 use Rattle.cpu_step.specs.State.{State}
 use Rattle.cpu_step.specs.Effects.{of_cards, after}
-use Rattle.cpu_step.specs.Act.{Goes, card_action}
+use Rattle.cpu_step.specs.Act.{Continues, card_action}
 use Rattle.cpu_step.specs.Machine.{state_with, Shows, Frames, DidAction, DidFirst, Acts, card_outcome}
 use Rattle.cpu_step.proofs.Texts.{texts_same}
 use Rattle.cpu_step.proofs.ShownStates.{whatever, some_state, some_shown}
@@ -41,8 +41,8 @@ desk_of s = record { core = s.core; panel = s.panel; left = s.hopper }
 
 after_cards : (es : List Intake) (s : State) → after s (map of_cards es) ≡ on_desk s (desk_after (desk_of s) es)
 after_cards [] s = refl
-after_cards (Takes ∷ es) s = after_cards es (record s { hopper = behind s.hopper })
-after_cards (Changes (Stores x) ∷ es) s = after_cards es (record s { core = store s.core x.at x.digit })
+after_cards (TakesText ∷ es) s = after_cards es (record s { hopper = behind s.hopper })
+after_cards (Changes (StoresCell x) ∷ es) s = after_cards es (record s { core = store s.core x.at x.digit })
 after_cards (Changes (Lights l) ∷ es) s = after_cards es (record s { panel = set l.code l.to s.panel })
 
 pub told_same : {A B : Type 0} (o : Option A) (p : Option B) (x : B) → p ≡ option_map (λ y. x) o → is_some p ≡ is_some o
@@ -99,7 +99,7 @@ read_state m new before later t s n long rest leaves =
 module _ (m : ℕ) (old new : Machine m) (before later : Seen) (t : ℕ → List Entry → Trace Intake ⊤ Break) (regs : new.regs ≡ old.regs) (mode : new.mode ≡ old.mode) (arms : new.arms ≡ old.arms) (keys : new.keys ≡ old.keys) (own : own_cards new.hopper ≡ own_cards old.hopper) (cards : GoesOnReadingCards old.hopper new.hopper before later) where
   -- a card is read, where the host didn't fail
   pub card_did : (next : Regs) (r : Result ⊤ Break) → next ≡ on_at old.regs (old.regs.ir + 12) → length old.core ≡ size m
-      → ReadsAll hopper_feed (t (size m)) (station old.core old.panel old.hopper before) (station new.core new.panel new.hopper later) r → DidAction m (λ s. card_action s t) old new before later (map_answer (λ x. Goes next) r)
+      → ReadsAll hopper_feed (t (size m)) (station old.core old.panel old.hopper before) (station new.core new.panel new.hopper later) r → DidAction m (λ s. card_action s t) old new before later (map_answer (λ x. Continues next) r)
   card_did next r next_is long all =
       let lines = whatever (keys_left old.keys before.world) [] in
       let pack = whatever before.world.sectors (λ a. []) in
@@ -114,7 +114,7 @@ module _ (m : ℕ) (old new : Machine m) (before later : Seen) (t : ℕ → List
       record {
         state = s;
         shown = record { is = refl; hopper = all.told; keys = lines.told; sectors = pack.told };
-        answers = ap (λ (n : ℕ). map_answer (λ x. Goes (on_at old.regs (old.regs.ir + 12))) (t n all.given).answer) long ∙ (λ i. map_answer (λ x. Goes (sym next_is i)) (all.answers i));
+        answers = ap (λ (n : ℕ). map_answer (λ x. Continues (on_at old.regs (old.regs.ir + 12))) (t n all.given).answer) long ∙ (λ i. map_answer (λ x. Continues (sym next_is i)) (all.answers i));
         made = subst (λ (x : State). Shows m new later.world x) (sym (read_state m new before later t s (size m) long all.rest all.leaves)) there;
         frames = looked m old new before later keys all.looks (told_same (hopper_left old.hopper before.world) (hopper_left new.hopper later.world) all.rest all.left) own cards;
       }
@@ -146,7 +146,7 @@ module _ (m : ℕ) (old new : Machine m) (before later : Seen) (t : ℕ → List
   pub card_acts : (next : Regs) (answer : CardIo) → next ≡ on_at old.regs (old.regs.ir + 12) → length old.core ≡ size m
       → ReadsCardBy (t (size m)) (station old.core old.panel old.hopper before) (station new.core new.panel new.hopper later) answer → Acts m (λ s. card_action s t) old new before later (card_outcome next answer)
   card_acts next io.Done next_is long reads = card_did next (Ok tt) next_is long reads
-  card_acts next (io.Stop why) next_is long reads = card_did next (Err (Stops why)) next_is long reads
+  card_acts next (io.Stop why) next_is long reads = card_did next (Err (StopsBy why)) next_is long reads
   card_acts next io.Empty next_is long reads = card_did next (Err Empty) next_is long reads
-  card_acts next (io.Jam u n) next_is long reads = card_did next (Err (Jam u n)) next_is long reads
+  card_acts next (io.Jam u n) next_is long reads = card_did next (Err (JamsAt u n)) next_is long reads
   card_acts next io.Failed next_is long reads = card_first reads

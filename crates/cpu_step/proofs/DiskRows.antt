@@ -12,7 +12,7 @@ use Rattle.outside_io.specs.World.{World, Seen, with_sector}
 use Rattle.outside_io.specs.Frame.{Tells, Keeps}
 use Rattle.outside_io.proofs.Frames.{keeps_sectors}
 use Rattle.traces.specs.Trace.{Trace}
-use Rattle.traces.specs.Change.{Stores, Lights}
+use Rattle.traces.specs.Change.{StoresCell, Lights}
 use Rattle.traces.specs.Break.{Break}
 use Rattle.card_code.specs.Entries.{Entry}
 use Rattle.card_unit.specs.Hopper.{hopper_left, own_cards}
@@ -22,7 +22,7 @@ use Rattle.typewriter.proofs.ReadSame.{reads_kept as keys_kept}
 use Rattle.disk_1311.specs.declared.DiskIo.{DiskIo}
 use Rattle.disk_1311.specs.declared.DiskIo.TheVariants as io
 use Rattle.disk_1311.specs.declared.DiskKind.{DiskKind}
-use Rattle.disk_1311.specs.Sector.{DiskEffect, Alters, Moves, Records, core_left}
+use Rattle.disk_1311.specs.Sector.{DiskEffect, Alters, SetsArm, Records, core_left}
 use Rattle.disk_1311.specs.Disk.{seek, transfer}
 use Rattle.disk_1311.specs.DiskCalls.{disk_moment, panel_left, arms_left, sectors_left, world_left, MadeSeek, Seeks, Done, Transferred, TransferredFirst, Transfers}
 use Rattle.disk_1311.proofs.Arms.{seek-core, seek-sectors, transfer-arms, transfer-arms_all}
@@ -41,9 +41,9 @@ done_to s es = record s { core = core_left s.core es; panel = panel_left s.panel
 
 after_disk : (es : List DiskEffect) (s : State) → after s (map of_disk es) ≡ done_to s es
 after_disk [] s = refl
-after_disk (Alters (Stores x) ∷ es) s = after_disk es (record s { core = store s.core x.at x.digit })
+after_disk (Alters (StoresCell x) ∷ es) s = after_disk es (record s { core = store s.core x.at x.digit })
 after_disk (Alters (Lights l) ∷ es) s = after_disk es (record s { panel = set l.code l.to s.panel })
-after_disk (Moves d c ∷ es) s = after_disk es (record s { arms = slice_set s.arms (d - 1) c })
+after_disk (SetsArm d c ∷ es) s = after_disk es (record s { arms = slice_set s.arms (d - 1) c })
 after_disk (Records a bytes ∷ es) s = after_disk es (record s { sectors = with_sector a bytes s.sectors })
 
 tells_map : {A : Type 0} (o : Option A) (x : A) (f : A → A) → Tells o x → Tells (option_map f o) (f x)

@@ -4,11 +4,11 @@ use Rattle.std.specs.Prelude.{Option, Some, None, Result, Ok, Err}
 use Rattle.addr_indirect.specs.declared.Stop.{Stop}
 use Rattle.outside_io.specs.Events.{Event, cards_in, lines_in}
 use Rattle.outside_io.proofs.EventLemmas.{cards_append, lines_append}
-use Rattle.traces.specs.Break.{Break, Stops, Empty, NoKeys, Jam}
+use Rattle.traces.specs.Break.{Break, StopsBy, Empty, NoKeys, JamsAt}
 use Rattle.card_code.specs.Entries.{Entry, behind}
 use Rattle.cpu_step.specs.State.{State}
-use Rattle.cpu_step.specs.Act.{Next, Goes, Halts}
-use Rattle.cpu_step.specs.Effects.{Effect, Cell, Light, Arm, Written, Sector, CardTaken, LineTaken, after_one, after}
+use Rattle.cpu_step.specs.Act.{Next, Continues, Halts}
+use Rattle.cpu_step.specs.Effects.{Effect, CellStored, Light, Arm, Written, Sector, CardTaken, LineTaken, after_one, after}
 use Rattle.cpu_step.specs.Step.{instruction, check_stop, state_after_check, settle, step, partial_step}
 use Rattle.cpu_step.specs.Load.{state_for_load, load_trace, load_key, load_cut}
 use Rattle.cpu_step.specs.Outside.{all_outside, load_events}
@@ -42,7 +42,7 @@ drop_behind n (e ∷ entries) = refl
 -- some effects leave the cards and the lines without those that they take
 pub all_taken : (es : List Effect) (s : State) → HasTaken s (after s es) (all_outside es)
 all_taken [] s = record { cards = refl; lines = refl }
-all_taken (Cell d ∷ es) s = let t = all_taken es (after_one s (Cell d)) in record { cards = t.cards; lines = t.lines }
+all_taken (CellStored d ∷ es) s = let t = all_taken es (after_one s (CellStored d)) in record { cards = t.cards; lines = t.lines }
 all_taken (Light l ∷ es) s = let t = all_taken es (after_one s (Light l)) in record { cards = t.cards; lines = t.lines }
 all_taken (Arm drive cylinder ∷ es) s = let t = all_taken es (after_one s (Arm drive cylinder)) in record { cards = t.cards; lines = t.lines }
 all_taken (Written u b ∷ es) s = let t = all_taken es (after_one s (Written u b)) in record { cards = t.cards; lines = t.lines }
@@ -56,16 +56,16 @@ record SameInputs (s t : State) : Type 0 where
   pub keys : t.keys ≡ s.keys
 
 checked_same : (o : Option Stop) (s : State) (n : Next) → SameInputs s (state_after_check o s n)
-checked_same None s (Goes regs) = record { hopper = refl; keys = refl }
+checked_same None s (Continues regs) = record { hopper = refl; keys = refl }
 checked_same None s (Halts regs) = record { hopper = refl; keys = refl }
 checked_same (Some why) s n = record { hopper = refl; keys = refl }
 
 settle_same : (s : State) (r : Result Next Break) → SameInputs s (settle s r)
 settle_same s (Ok next) = checked_same (check_stop s.panel) s next
-settle_same s (Err (Stops why)) = record { hopper = refl; keys = refl }
+settle_same s (Err (StopsBy why)) = record { hopper = refl; keys = refl }
 settle_same s (Err Empty) = record { hopper = refl; keys = refl }
 settle_same s (Err NoKeys) = record { hopper = refl; keys = refl }
-settle_same s (Err (Jam u n)) = record { hopper = refl; keys = refl }
+settle_same s (Err (JamsAt u n)) = record { hopper = refl; keys = refl }
 
 -- a step, and a part of one
 pub step_taken : (s : State) → HasTaken s (step s) (all_outside (instruction s).effects)

@@ -11,10 +11,10 @@ use Rattle.outside_io.specs.World.{World, Seen, world_after_take, same_unit}
 use Rattle.outside_io.specs.Frame.{Tells, Keeps}
 use Rattle.outside_io.proofs.Frames.{keeps_taken}
 use Rattle.traces.specs.Trace.{Trace, map_answer}
-use Rattle.traces.specs.Change.{Stores, Lights}
-use Rattle.traces.specs.Break.{Break, Stops, NoKeys, Jam}
+use Rattle.traces.specs.Change.{StoresCell, Lights}
+use Rattle.traces.specs.Break.{Break, StopsBy, NoKeys, JamsAt}
 use Rattle.card_code.specs.Entries.{Entry, behind}
-use Rattle.card_code.specs.TextIn.{Intake, Takes, Changes, Desk, desk_after}
+use Rattle.card_code.specs.TextIn.{Intake, TakesText, Changes, Desk, desk_after}
 use Rattle.card_unit.specs.Pile.{is_card_unit}
 use Rattle.card_unit.specs.Hopper.{hopper_left, own_cards}
 use Rattle.card_unit.proofs.ReadSame.{reads_kept}
@@ -26,7 +26,7 @@ use Rattle.card_code.specs.Feed.{station, ReadsAll, ReadsNone}
 use Rattle.cpu_step.specs.declared.machine.Machine.{Machine}
 use Rattle.cpu_step.specs.State.{State}
 use Rattle.cpu_step.specs.Effects.{of_keys, after}
-use Rattle.cpu_step.specs.Act.{Goes, keyboard_action}
+use Rattle.cpu_step.specs.Act.{Continues, keyboard_action}
 use Rattle.cpu_step.specs.Machine.{state_with, Shows, Frames, DidAction, DidFirst, Acts, keyboard_outcome, is_read, is_written, machine_texts}
 use Rattle.cpu_step.proofs.ShownStates.{whatever, some_state, some_shown}
 use Rattle.cpu_step.proofs.Readers.{hopper_same}
@@ -45,8 +45,8 @@ desk_of s = record { core = s.core; panel = s.panel; left = s.keys }
 
 after_keys : (es : List Intake) (s : State) → after s (map of_keys es) ≡ on_desk s (desk_after (desk_of s) es)
 after_keys [] s = refl
-after_keys (Takes ∷ es) s = after_keys es (record s { keys = behind s.keys })
-after_keys (Changes (Stores x) ∷ es) s = after_keys es (record s { core = store s.core x.at x.digit })
+after_keys (TakesText ∷ es) s = after_keys es (record s { keys = behind s.keys })
+after_keys (Changes (StoresCell x) ∷ es) s = after_keys es (record s { core = store s.core x.at x.digit })
 after_keys (Changes (Lights l) ∷ es) s = after_keys es (record s { panel = set l.code l.to s.panel })
 
 module _ (m : ℕ) (old new : Machine m) (before later : Seen) (hopper : new.hopper ≡ old.hopper) (lines : GoesOnReadingLines old.keys new.keys before later) where
@@ -68,7 +68,7 @@ module _ (m : ℕ) (old new : Machine m) (before later : Seen) (hopper : new.hop
   module _ (t : ℕ → List Entry → Trace Intake ⊤ Break) (regs : new.regs ≡ old.regs) (mode : new.mode ≡ old.mode) (arms : new.arms ≡ old.arms) where
     -- a line is read, where the host didn't fail
     keyed_did : (next : Regs) (r : Result ⊤ Break) → next ≡ on_at old.regs (old.regs.ir + 12) → length old.core ≡ size m
-        → ReadsAll key_feed (t (size m)) (station old.core old.panel old.keys before) (station new.core new.panel new.keys later) r → DidAction m (λ s. keyboard_action s t) old new before later (map_answer (λ x. Goes next) r)
+        → ReadsAll key_feed (t (size m)) (station old.core old.panel old.keys before) (station new.core new.panel new.keys later) r → DidAction m (λ s. keyboard_action s t) old new before later (map_answer (λ x. Continues next) r)
     keyed_did next r next_is long all =
         let cards = whatever (hopper_left old.hopper before.world) [] in
         let pack = whatever before.world.sectors (λ a. []) in
@@ -84,7 +84,7 @@ module _ (m : ℕ) (old new : Machine m) (before later : Seen) (hopper : new.hop
         record {
           state = s;
           shown = record { is = refl; hopper = cards.told; keys = all.told; sectors = pack.told };
-          answers = ap (λ (n : ℕ). map_answer (λ x. Goes (on_at old.regs (old.regs.ir + 12))) (t n all.given).answer) long ∙ (λ i. map_answer (λ x. Goes (sym next_is i)) (all.answers i));
+          answers = ap (λ (n : ℕ). map_answer (λ x. Continues (on_at old.regs (old.regs.ir + 12))) (t n all.given).answer) long ∙ (λ i. map_answer (λ x. Continues (sym next_is i)) (all.answers i));
           made = subst (λ (x : State). Shows m new later.world x) (sym end) there;
           frames = looked all.looks (told_same (keys_left old.keys before.world) (keys_left new.keys later.world) all.rest all.left);
         }
@@ -115,7 +115,7 @@ module _ (m : ℕ) (old new : Machine m) (before later : Seen) (hopper : new.hop
     pub keyboard_acts : (next : Regs) (answer : KeyIo) → next ≡ on_at old.regs (old.regs.ir + 12) → length old.core ≡ size m
         → ReadsLineBy (t (size m)) (station old.core old.panel old.keys before) (station new.core new.panel new.keys later) answer → Acts m (λ s. keyboard_action s t) old new before later (keyboard_outcome next answer)
     keyboard_acts next io.Done next_is long reads = keyed_did next (Ok tt) next_is long reads
-    keyboard_acts next (io.Stop why) next_is long reads = keyed_did next (Err (Stops why)) next_is long reads
+    keyboard_acts next (io.Stop why) next_is long reads = keyed_did next (Err (StopsBy why)) next_is long reads
     keyboard_acts next io.NoKeys next_is long reads = keyed_did next (Err NoKeys) next_is long reads
-    keyboard_acts next (io.Jam n) next_is long reads = keyed_did next (Err (Jam units.Keys n)) next_is long reads
+    keyboard_acts next (io.Jam n) next_is long reads = keyed_did next (Err (JamsAt units.Keys n)) next_is long reads
     keyboard_acts next io.Failed next_is long reads = keyboard_first reads

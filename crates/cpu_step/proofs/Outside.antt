@@ -8,12 +8,12 @@ use Rattle.outside_io.specs.World.{World, same_unit}
 use Rattle.outside_io.specs.Frame.{Keeps}
 use Rattle.outside_io.specs.Events.{Event, after_events, IsFirstPart, SameOutside, DidAll}
 use Rattle.outside_io.proofs.EventLemmas.{same_on, same_sym, same_events, after_append, first_none, first_on}
-use Rattle.traces.specs.Break.{Break, Stops, Empty, NoKeys, Jam}
+use Rattle.traces.specs.Break.{Break, StopsBy, Empty, NoKeys, JamsAt}
 use Rattle.addr_indirect.specs.declared.Stop.{Stop}
 use Rattle.cpu_step.specs.declared.machine.Machine.{Machine}
 use Rattle.cpu_step.specs.State.{UnitTexts, State}
-use Rattle.cpu_step.specs.Act.{Next, Goes, Halts}
-use Rattle.cpu_step.specs.Effects.{Effect, Cell, Light, Arm, Written, Sector, CardTaken, LineTaken, with_bytes, after_one, after}
+use Rattle.cpu_step.specs.Act.{Next, Continues, Halts}
+use Rattle.cpu_step.specs.Effects.{Effect, CellStored, Light, Arm, Written, Sector, CardTaken, LineTaken, with_bytes, after_one, after}
 use Rattle.cpu_step.specs.Step.{instruction, check_stop, state_after_check, settle, step, partial_step}
 use Rattle.cpu_step.specs.Machine.{state_of, is_read, is_written}
 use Rattle.cpu_step.specs.Load.{state_for_load, load_trace, load_key, load_cut}
@@ -37,7 +37,7 @@ seen_put false false byte o p is = refl
 
 module _ (w : World) where
   one_seen : (s : State) (e : Effect) → IsOwn e → seen_by w (after_one s e) ≡ after_events (seen_by w s) (outside e)
-  one_seen s (Cell d) own = refl
+  one_seen s (CellStored d) own = refl
   one_seen s (Light l) own = refl
   one_seen s (Arm drive cylinder) own = refl
   one_seen s (Written u b) own = ap (λ (texts : UnitTexts). record (seen_by w s) { written = texts }) (fun_ext (λ v. seen_put (is_written v) (same_unit u v) b (s.written v) (w.written v) (same_written u true own v)))
@@ -50,16 +50,16 @@ module _ (w : World) where
   all_seen (e ∷ es) s own = all_seen es (after_one s e) (All-tail IsOwn e es own) ∙ ap (λ (x : World). after_events x (all_outside es)) (one_seen s e (All-head IsOwn e es own)) ∙ sym (after_append (outside e) (all_outside es) (seen_by w s))
 
   checked_seen : (o : Option Stop) (s : State) (n : Next) → seen_by w (state_after_check o s n) ≡ seen_by w s
-  checked_seen None s (Goes regs) = refl
+  checked_seen None s (Continues regs) = refl
   checked_seen None s (Halts regs) = refl
   checked_seen (Some why) s n = refl
 
   settle_seen : (s : State) (r : Result Next Break) → seen_by w (settle s r) ≡ seen_by w s
   settle_seen s (Ok next) = checked_seen (check_stop s.panel) s next
-  settle_seen s (Err (Stops why)) = refl
+  settle_seen s (Err (StopsBy why)) = refl
   settle_seen s (Err Empty) = refl
   settle_seen s (Err NoKeys) = refl
-  settle_seen s (Err (Jam u n)) = refl
+  settle_seen s (Err (JamsAt u n)) = refl
 
   -- a step, and a part of one
   pub step_seen : (s : State) → seen_by w (step s) ≡ after_events (seen_by w s) (all_outside (instruction s).effects)

@@ -7,14 +7,14 @@ use Rattle.addr_indirect.specs.Fetch.{fetch}
 use Rattle.outside_io.specs.declared.host.Unit as unit
 use Rattle.outside_io.specs.declared.host.Unit.TheVariants as units
 use Rattle.traces.specs.Trace.{Trace, after_answer, ◌>>=◌}
-use Rattle.traces.specs.Change.{Change, Stores, Lights}
+use Rattle.traces.specs.Change.{Change, StoresCell, Lights}
 use Rattle.traces.specs.Break.{Break, or_break}
-use Rattle.card_code.specs.{Output, Writes, Warns, Intake, Takes, Changes}
+use Rattle.card_code.specs.{Output, WritesByte, Warns, Intake, TakesText, Changes}
 use Rattle.card_unit.specs.Reader as reader
 use Rattle.card_unit.specs.Punch.{punch_numeric, punch_alphameric, punch_dump}
 use Rattle.typewriter.specs.Keys as keyboard
 use Rattle.typewriter.specs.Typing.{control, write_numeric, write_alphameric, write_dump}
-use Rattle.disk_1311.specs.Sector.{DiskEffect, Alters, Moves, Records}
+use Rattle.disk_1311.specs.Sector.{DiskEffect, Alters, SetsArm, Records}
 use Rattle.disk_1311.specs.Disk.{seek, transfer}
 use Rattle.table_arith.specs.declared.Shown.{Shown}
 use Rattle.table_arith.specs.Sum.{sum, comparison, shown_lamps}
@@ -32,7 +32,7 @@ use Rattle.cpu_step.specs.declared.rows.DiskRow.TheVariants as disk
 use Rattle.branch_ops.specs.declared.fields.Operands.{Operands}
 use Rattle.cpu_step.specs.Rows.{instruction_row}
 use Rattle.cpu_step.specs.State.{State}
-use Rattle.cpu_step.specs.Effects.{Effect, Cell, Light, Written, of_change, of_cards, of_keys, of_output, of_disk}
+use Rattle.cpu_step.specs.Effects.{Effect, CellStored, Light, Written, of_change, of_cards, of_keys, of_output, of_disk}
 use Rattle.field_moves.specs.Move.{move_of}
 use Rattle.feature_ops.specs.Feature.{feature_of}
 use Rattle.cpu_step.specs.Act.{show_result, operands, operands_tested, on_console, on_cards, on_disk, in_out, action, act}
@@ -49,24 +49,24 @@ AreOwn t = All IsOwn t.effects
 
 -- what each layer does
 change_own : (c : Change) → IsOwn (of_change c)
-change_own (Stores s) = tt
+change_own (StoresCell s) = tt
 change_own (Lights l) = tt
 
 cards_own : (i : Intake) → IsOwn (of_cards i)
-cards_own Takes = tt
+cards_own TakesText = tt
 cards_own (Changes c) = change_own c
 
 keys_own : (i : Intake) → IsOwn (of_keys i)
-keys_own Takes = tt
+keys_own TakesText = tt
 keys_own (Changes c) = change_own c
 
 output_own : (u : unit.Unit) → is_written u ≡ true → (o : Output) → IsOwn (of_output u o)
-output_own u own (Writes b) = own
+output_own u own (WritesByte b) = own
 output_own u own (Warns l) = tt
 
 disk_own : (e : DiskEffect) → IsOwn (of_disk e)
 disk_own (Alters c) = change_own c
-disk_own (Moves drive cylinder) = tt
+disk_own (SetsArm drive cylinder) = tt
 disk_own (Records a bytes) = tt
 
 each_own : {A : Type 0} (f : A → Effect) → ((a : A) → IsOwn (f a)) → (xs : List A) → All IsOwn (map f xs)
@@ -116,10 +116,10 @@ unit_own (io.Disk r) p s = disks_own r p s
 
 action_own : (r : Row) (o : Operands) (s : State) → AreOwn (action r o s)
 unfolding action
-action_own (row.Sum kind) o s = sum_own _ (or_break (sum kind s.core o.p o.q).answer) (each_own Cell (λ d. tt) (sum kind s.core o.p o.q).effects)
+action_own (row.Sum kind) o s = sum_own _ (or_break (sum kind s.core o.p o.q).answer) (each_own CellStored (λ d. tt) (sum kind s.core o.p o.q).effects)
 action_own row.Compare o s = read_own (comparison s.core o.p o.q) show_result lamps_own
-action_own (row.Move op) o s = each_own Cell (λ d. tt) (move_of op s.core o.p o.q).effects
-action_own (row.Feature op) o s = each_own Cell (λ d. tt) (feature_of op s.core o.p o.q).effects
+action_own (row.Move op) o s = each_own CellStored (λ d. tt) (move_of op s.core o.p o.q).effects
+action_own (row.Feature op) o s = each_own CellStored (λ d. tt) (feature_of op s.core o.p o.q).effects
 action_own (row.InOut r) o s = unit_own r o.p s
 action_own (row.Branch op code) o s = each_own of_change change_own (branch_over op (operands_tested o code) s.core s.regs s.panel).effects
 action_own row.Nop o s = All-nil IsOwn

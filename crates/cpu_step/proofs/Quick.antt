@@ -9,7 +9,7 @@ use Rattle.cpu_step.specs.declared.machine.Machine.{Machine}
 use Rattle.cpu_step.specs.declared.rows.Row.{Row}
 use Rattle.branch_ops.specs.declared.fields.Operands.{Operands}
 use Rattle.cpu_step.specs.State.{State}
-use Rattle.cpu_step.specs.Act.{Next, Goes, action}
+use Rattle.cpu_step.specs.Act.{Next, Continues, action}
 use Rattle.cpu_step.specs.Step.{instruction}
 use Rattle.cpu_step.specs.declared.memo.Memo.{Memo}
 use Rattle.instruction_table.specs.declared.MayStore.{MayStore}
@@ -27,7 +27,7 @@ module _ (m : ℕ) (machine : Machine m) (w : World) (s : State) (shown : Shows 
   known_acts r stores o c = row_acts m machine w s shown _ (found_with r (uses_at machine.regs.ir low high) stores) (sym c.fetched) (sym c.row_is) ∙ operands_act m machine w s shown (found_with r (uses_at machine.regs.ir low high) stores) (Ok o) (sym c.operands_are)
 
   -- B
-  pub known_goes : (p : ℕ) → ComesToB machine.core machine.regs.ir low high p → instruction s ≡ ends (Ok (Goes (record { ir = p; ir2 = machine.regs.ir2 })))
+  pub known_goes : (p : ℕ) → ComesToB machine.core machine.regs.ir low high p → instruction s ≡ ends (Ok (Continues (record { ir = p; ir2 = machine.regs.ir2 })))
   unfolding action
   known_goes p c =
       let regs_is : s.regs ≡ machine.regs = ap (λ (x : State). x.regs) shown.is in

@@ -11,10 +11,10 @@ use Rattle.outside_io.specs.declared.host.Unit as unit
 use Rattle.outside_io.specs.declared.host.Unit.TheVariants as units
 use Rattle.outside_io.specs.World.{at}
 use Rattle.traces.specs.Trace.{Trace, ends, lift, and_then, with_answer, ◌>>=◌}
-use Rattle.traces.specs.Change.{Change, Stores, core_after_changes}
+use Rattle.traces.specs.Change.{Change, StoresCell, core_after_changes}
 use Rattle.traces.specs.Stored.{Stored, stores, core_after}
 use Rattle.traces.specs.Break.{or_break, stop_as_break}
-use Rattle.card_code.specs.{Output, Writes, Warns}
+use Rattle.card_code.specs.{Output, WritesByte, Warns}
 use Rattle.field_moves.specs.Move.{copy_digit, move_field, move_record}
 use Rattle.field_moves.specs.Flag.{set_flag, clear_flag}
 use Rattle.feature_ops.specs.Feature.{strip, fill}
@@ -50,7 +50,7 @@ use Rattle.branch_ops.specs.declared.fields.Operands.{Operands}
 use Rattle.cpu_step.specs.declared.stores.Stores as may
 use Rattle.cpu_step.specs.declared.stores.Stores.TheVariants as kinds
 use Rattle.cpu_step.specs.State.{State}
-use Rattle.cpu_step.specs.Effects.{Cell, Written, of_output, with_bytes, after}
+use Rattle.cpu_step.specs.Effects.{CellStored, Written, of_output, with_bytes, after}
 use Rattle.card_unit.specs.Punch.{punch_numeric, punch_alphameric, punch_dump}
 use Rattle.typewriter.specs.Typing.{control, write_numeric, write_alphameric, write_dump}
 use Rattle.cpu_step.specs.Act.{show_result, sum_action, comparison_action, move_action, typing_action, pair_typing_action, punch_action, pair_punch_action, on_console, on_cards, operands_tested, action}
@@ -73,13 +73,13 @@ within_up core new p rises a (inl below) = rises.below a below
 within_up core new p rises a (inr between) = rises.above a between.at between.above between.below between.mark
 
 -- core after effects
-core_cells : (ss : List Stored) (s : State) → (after s (map Cell ss)).core ≡ core_after s.core ss
+core_cells : (ss : List Stored) (s : State) → (after s (map CellStored ss)).core ≡ core_after s.core ss
 core_cells ss s = ap (λ (x : State). x.core) (after_cells ss s)
 
 core_shown : (a : Result Shown Stop) (s : State) → (after s (or_break a >>= show_result).effects).core ≡ s.core
 core_shown a s = ap (λ (x : State). x.core) (after_shown a s)
 
-core_sum : (t : Trace Stored Shown Stop) (s : State) → (after s (and_then (lift Cell (stop_as_break t)) show_result).effects).core ≡ core_after s.core t.effects
+core_sum : (t : Trace Stored Shown Stop) (s : State) → (after s (and_then (lift CellStored (stop_as_break t)) show_result).effects).core ≡ core_after s.core t.effects
 core_sum t s = ap (λ (x : State). x.core) (after_sum t t.answer refl s)
 
 -- one cell
@@ -110,7 +110,7 @@ core_written u (b ∷ bs) s = core_written u bs (record s { written = at u (with
 
 core_pairs : (u : unit.Unit) (os : List Output) (s : State) → (after s (map (of_output u) os)).core ≡ s.core
 core_pairs u [] s = refl
-core_pairs u (Writes b ∷ os) s = core_pairs u os (record s { written = at u (with_bytes (b ∷ [])) s.written })
+core_pairs u (WritesByte b ∷ os) s = core_pairs u os (record s { written = at u (with_bytes (b ∷ [])) s.written })
 core_pairs u (Warns l ∷ os) s = core_pairs u os (record s { panel = set l.code l.to s.panel })
 
 -- what leaves core keeps all its cells
@@ -225,7 +225,7 @@ branch_column b = column.Nothing
 module _ (core : List ℕ) (r : Regs) (panel : Panel) where
   -- BT
   abbrev transmit_by : Bool → ℕ → ℕ → Trace Change Regs Stop
-  transmit_by b p q = if b then ends (Err Address) else with_answer (λ _. record { ir = p; ir2 = r.ir + 12 }) (lift Stores (move_field core (p - 1) q))
+  transmit_by b p q = if b then ends (Err Address) else with_answer (λ _. record { ir = p; ir2 = r.ir + 12 }) (lift StoresCell (move_field core (p - 1) q))
 
   transmit_keeps : (p q : ℕ) → p < length core → KeepsOutside (down_below p) core (core_after_changes core (transmit core r p q).effects)
   transmit_keeps p q inside = by_zero (p == 0)

@@ -8,7 +8,7 @@ use Rattle.outside_io.specs.World.{World, Seen, at, with_sector}
 use Rattle.outside_io.specs.Frame.{Tells, ToldValue}
 use Rattle.outside_io.proofs.Frames.{keeps_all}
 use Rattle.traces.specs.Trace.{Trace, ends}
-use Rattle.traces.specs.Break.{Break, Stops}
+use Rattle.traces.specs.Break.{Break, StopsBy}
 use Rattle.digit_core.specs.Cell.{store}
 use Rattle.indicators.specs.Panel.{set}
 use Rattle.card_code.specs.Entries.{Entry, behind}
@@ -30,7 +30,7 @@ use Rattle.branch_ops.specs.declared.fields.Fields.{Fields}
 use Rattle.cpu_step.specs.Rows.{instruction_row}
 use Rattle.branch_ops.specs.Fields.{fields_operands, HoldOperands}
 use Rattle.cpu_step.specs.State.{State}
-use Rattle.cpu_step.specs.Effects.{Effect, Cell, Light, Arm, Written, Sector, CardTaken, LineTaken, with_bytes, after}
+use Rattle.cpu_step.specs.Effects.{Effect, CellStored, Light, Arm, Written, Sector, CardTaken, LineTaken, with_bytes, after}
 use Rattle.cpu_step.specs.Act.{Next, operands, act, act_with, act_over}
 use Rattle.cpu_step.specs.Step.{instruction_trace, instruction, with_parity, state_after_stop, check_stop, state_after_check, settle, step, partial_step}
 use Rattle.cpu_step.specs.Machine.{state_with, Shows, Frames, Makes, DidAction, DidFirst, Acts, StopsShort, Steps, is_read, is_written}
@@ -74,7 +74,7 @@ did_nothing m machine before r = record {
 -- no effect changes the mode
 after_mode : (es : List Effect) (s : State) → (after s es).mode ≡ s.mode
 after_mode [] s = refl
-after_mode (Cell d ∷ es) s = after_mode es (record s { core = store s.core d.at d.digit })
+after_mode (CellStored d ∷ es) s = after_mode es (record s { core = store s.core d.at d.digit })
 after_mode (Light l ∷ es) s = after_mode es (record s { panel = set l.code l.to s.panel })
 after_mode (Arm d c ∷ es) s = after_mode es (record s { arms = slice_set s.arms (d - 1) c })
 after_mode (Sector a bytes ∷ es) s = after_mode es (record s { sectors = with_sector a bytes s.sectors })
@@ -125,7 +125,7 @@ module _ (m : ℕ) (machine : Machine m) (w : World) (s : State) (shown : Shows 
   fetch_shown : (r : Result Instr Stop) → r ≡ fetch machine.core machine.regs.ir → fetch s.core s.regs.ir ≡ r
   fetch_shown r is = ap (λ (x : State). fetch x.core x.regs.ir) shown.is ∙ sym is
 
-  pub fetch_stops : (why : Stop) → Err why ≡ fetch machine.core machine.regs.ir → instruction s ≡ ends (Err (Stops why))
+  pub fetch_stops : (why : Stop) → Err why ≡ fetch machine.core machine.regs.ir → instruction s ≡ ends (Err (StopsBy why))
   unfolding instruction
   fetch_stops why is = rw (fetch_shown (Err why) is) refl
 
@@ -133,7 +133,7 @@ module _ (m : ℕ) (machine : Machine m) (w : World) (s : State) (shown : Shows 
   unfolding instruction
   fetched i is = rw (fetch_shown (Ok i) is) refl
 
-  pub row_stops : (i : Instr) (why : Stop) → Ok i ≡ fetch machine.core machine.regs.ir → Err why ≡ instruction_row i → instruction s ≡ ends (Err (Stops why))
+  pub row_stops : (i : Instr) (why : Stop) → Ok i ≡ fetch machine.core machine.regs.ir → Err why ≡ instruction_row i → instruction s ≡ ends (Err (StopsBy why))
   row_stops i why is no_row = fetched i is ∙ rw (sym no_row) refl
 
   pub row_acts : (i : Instr) (f : Found) → Ok i ≡ fetch machine.core machine.regs.ir → Ok f ≡ instruction_row i → instruction s ≡ act f s

@@ -8,7 +8,7 @@ use Rattle.addr_indirect.specs.declared.Stop.{Stop}
 use Rattle.addr_indirect.specs.declared.Instr.{Instr}
 use Rattle.card_code.specs.Entries.{behind}
 use Rattle.traces.specs.Trace.{Trace, ends, ◌>>=◌}
-use Rattle.traces.specs.Break.{Break, Stops, Empty, NoKeys, Jam, or_break}
+use Rattle.traces.specs.Break.{Break, StopsBy, Empty, NoKeys, JamsAt, or_break}
 use Rattle.instruction_table.specs.declared.MayStore.{MayStore}
 use Rattle.instruction_table.specs.declared.MayStore.TheVariants as column
 use Rattle.cpu_step.specs.declared.rows.Row.{Row}
@@ -17,8 +17,8 @@ use Rattle.branch_ops.specs.declared.fields.Operands.{Operands}
 use Rattle.cpu_step.specs.declared.stores.Stores as may
 use Rattle.cpu_step.specs.declared.stores.Stores.TheVariants as kinds
 use Rattle.cpu_step.specs.State.{State}
-use Rattle.cpu_step.specs.Effects.{Effect, Cell, Light, Arm, Written, Sector, CardTaken, LineTaken, with_bytes, after}
-use Rattle.cpu_step.specs.Act.{Next, Goes, Halts, act, action, operands}
+use Rattle.cpu_step.specs.Effects.{Effect, CellStored, Light, Arm, Written, Sector, CardTaken, LineTaken, with_bytes, after}
+use Rattle.cpu_step.specs.Act.{Next, Continues, Halts, act, action, operands}
 use Rattle.cpu_step.specs.Step.{check_stop, state_after_check, settle, instruction, step}
 use Rattle.cpu_step.specs.Known.{found_with, uses_at, ComesToRow}
 use Rattle.cpu_step.specs.Rows.{instruction_row}
@@ -30,7 +30,7 @@ use Rattle.cpu_step.proofs.Knowing.{odd_wanted}
 -- no effect changes the length of core
 after_long : (es : List Effect) (s : State) → length (after s es).core ≡ length s.core
 after_long [] s = refl
-after_long (Cell d ∷ es) s = after_long es (record s { core = store s.core d.at d.digit }) ∙ length-set s.core d.at (cell d.digit)
+after_long (CellStored d ∷ es) s = after_long es (record s { core = store s.core d.at d.digit }) ∙ length-set s.core d.at (cell d.digit)
 after_long (Light l ∷ es) s = after_long es (record s { panel = set l.code l.to s.panel })
 after_long (Arm d c ∷ es) s = after_long es (record s { arms = slice_set s.arms (d - 1) c })
 after_long (Sector a bytes ∷ es) s = after_long es (record s { sectors = with_sector a bytes s.sectors })
@@ -40,16 +40,16 @@ after_long (CardTaken ∷ es) s = after_long es (record s { hopper = behind s.ho
 
 -- what follows an action leaves core
 checked_core : (o : Option Stop) (s : State) (n : Next) → (state_after_check o s n).core ≡ s.core
-checked_core None s (Goes regs) = refl
+checked_core None s (Continues regs) = refl
 checked_core None s (Halts regs) = refl
 checked_core (Some why) s n = refl
 
 settle_core : (s : State) (r : Result Next Break) → (settle s r).core ≡ s.core
 settle_core s (Ok n) = checked_core (check_stop s.panel) s n
-settle_core s (Err (Stops why)) = refl
+settle_core s (Err (StopsBy why)) = refl
 settle_core s (Err Empty) = refl
 settle_core s (Err NoKeys) = refl
-settle_core s (Err (Jam u n)) = refl
+settle_core s (Err (JamsAt u n)) = refl
 
 -- so a step stores what its instruction does
 step_core : (s : State) → (step s).core ≡ (after s (instruction s).effects).core
@@ -66,8 +66,8 @@ module _ (core : List ℕ) (ir : ℕ) where
   unfolding instruction
   fetch_none why is s core_is ir_is =
       let here : fetch s.core s.regs.ir ≡ Err why = rw (core_is, ir_is) is in
-      let same : instruction s ≡ ends (Err (Stops why)) = rw here refl in
-      step_within kinds.Nothing s (ends (Err (Stops why))) same (λ a out. refl)
+      let same : instruction s ≡ ends (Err (StopsBy why)) = rw here refl in
+      step_within kinds.Nothing s (ends (Err (StopsBy why))) same (λ a out. refl)
 
   module _ (i : Instr) (there : fetch core ir ≡ Ok i) where
     row_here : (s : State) → s.core ≡ core → s.regs.ir ≡ ir → instruction s ≡ (or_break (instruction_row i) >>= (λ f. act f s))
@@ -78,15 +78,15 @@ module _ (core : List ℕ) (ir : ℕ) where
 
     pub row_none : (why : Stop) → instruction_row i ≡ Err why → StepStores core ir kinds.Nothing
     row_none why is s core_is ir_is =
-        let same : instruction s ≡ ends (Err (Stops why)) = row_here s core_is ir_is ∙ rw is refl in
-        step_within kinds.Nothing s (ends (Err (Stops why))) same (λ a out. refl)
+        let same : instruction s ≡ ends (Err (StopsBy why)) = row_here s core_is ir_is ∙ rw is refl in
+        step_within kinds.Nothing s (ends (Err (StopsBy why))) same (λ a out. refl)
 
     module _ (f : Found) (is : instruction_row i ≡ Ok f) where
       pub operands_none : (why : Stop) → operands f.uses core ir ≡ Err why → StepStores core ir kinds.Nothing
       operands_none why stops s core_is ir_is =
           let here : operands f.uses s.core s.regs.ir ≡ Err why = rw (core_is, ir_is) stops in
-          let same : instruction s ≡ ends (Err (Stops why)) = row_here s core_is ir_is ∙ rw (is, here) refl in
-          step_within kinds.Nothing s (ends (Err (Stops why))) same (λ a out. refl)
+          let same : instruction s ≡ ends (Err (StopsBy why)) = row_here s core_is ir_is ∙ rw (is, here) refl in
+          step_within kinds.Nothing s (ends (Err (StopsBy why))) same (λ a out. refl)
 
       pub row_step : (o : Operands) → operands f.uses core ir ≡ Ok o → o.p < length core → o.q < length core → StepStores core ir (stores_by f.stores o)
       row_step o works first second s core_is ir_is =

@@ -14,7 +14,7 @@ use Rattle.outside_io.proofs.Frames.{keeps_added}
 use Rattle.traces.specs.Trace.{Trace, lift}
 use Rattle.traces.specs.Break.{Break, stop_as_break}
 use Rattle.card_code.specs.Entries.{Entry}
-use Rattle.card_code.specs.TextOut.{Output, Writes, Warns, bytes_out, lamps_of}
+use Rattle.card_code.specs.TextOut.{Output, WritesByte, Warns, bytes_out, lamps_of}
 use Rattle.card_code.specs.Written.{Wrote, WroteFirst, WrotePairs, WroteFirstPairs}
 use Rattle.card_unit.specs.Hopper.{hopper_left, own_cards}
 use Rattle.card_unit.proofs.ReadSame.{reads_kept}
@@ -49,7 +49,7 @@ after_out u (b ∷ bs) s = after_out u bs (with_text u (b ∷ []) s) ∙ ap (λ 
 -- pairs change the text and the panel alone
 after_pairs : (u : unit.Unit) (es : List Output) (s : State) → after s (map (of_output u) es) ≡ record (with_text u (bytes_out es) s) { panel = panel_after s.panel (lamps_of es) }
 after_pairs u [] s = ap (λ (t : UnitTexts). record s { written = t }) (sym (put_none u s.written))
-after_pairs u (Writes b ∷ es) s =
+after_pairs u (WritesByte b ∷ es) s =
     after_pairs u es (with_text u (b ∷ []) s) ∙ ap (λ (t : UnitTexts). record s { written = t; panel = panel_after s.panel (lamps_of es) }) (put_on u (b ∷ []) (bytes_out es) s.written)
 after_pairs u (Warns l ∷ es) s = after_pairs u es (record s { panel = set l.code l.to s.panel })
 

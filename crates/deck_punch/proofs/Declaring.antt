@@ -8,7 +8,7 @@ use Rattle.sps_pass_two.specs.Image.{DigitRun, digit_at, declared_digit, or_else
 use Rattle.deck_punch.specs.declared.form.DeckForm.{DeckForm}
 use Rattle.deck_punch.specs.Cut.{cut_as, cut_piece_as}
 use Rattle.card_columns.specs.Orders.{nth}
-use Rattle.deck_punch.specs.Cover.{Covers, nothing, segment}
+use Rattle.deck_punch.specs.Cover.{Covers, no_digits, segment}
 use Rattle.deck_punch.proofs.Covering.{form_covers}
 
 abbrev pub run : ℕ → List Digit → DigitRun
@@ -65,7 +65,7 @@ nothing_at a b =
 -- a cover declares what its digits are
 cover_declares : {IsCut : List Digit → List Digit → Type 0} {a : ℕ} {ds : List Digit} {gs : List DigitRun} → Covers IsCut a ds gs → (b : ℕ) → declared_digit gs b ≡ digit_at (run a ds) b
 unfolding declared_digit
-cover_declares {a = a} nothing b = nothing_at a b
+cover_declares {a = a} no_digits b = nothing_at a b
 cover_declares {a = a} (segment ds rest cut more) b = ap (λ (o : Option Digit). or_else o (digit_at (run a ds) b)) (cover_declares more b) ∙ digit_joined a ds rest b
 
 -- runs in two parts

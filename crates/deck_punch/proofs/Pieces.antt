@@ -12,7 +12,7 @@ use Rattle.deck_punch.specs.declared.form.DeckForm.{DeckForm}
 use Rattle.deck_punch.specs.declared.segment.SegmentOf.{SegmentOf}
 use Rattle.deck_punch.specs.Types.{segment_run}
 use Rattle.deck_punch.specs.Cut.{cut_as, cut_piece_as}
-use Rattle.deck_punch.specs.Cover.{Covers, nothing, segment}
+use Rattle.deck_punch.specs.Cover.{Covers, no_digits, segment}
 use Rattle.deck_punch.proofs.Covering.{form_covers}
 
 -- the piece that is cut next, and the others
@@ -40,7 +40,7 @@ pub record IsPlaced (r : DigitRun) : Type 0 where
   pub good : All IsGood r.digits
 
 cover_each : {IsCut : List Digit → List Digit → Type 0} {a : ℕ} {ds : List Digit} {gs : List DigitRun} → Covers IsCut a ds gs → a + length ds ≤ 60000 → All IsGood ds → All IsPlaced gs
-cover_each nothing high good = λ k e l. absurd (omega arith)
+cover_each no_digits high good = λ k e l. absurd (omega arith)
 cover_each {a = a} (segment ds rest cut more) high good =
     let l = length-append ds rest in
     All-cons IsPlaced (record { from = a; digits = ds }) _

@@ -21,7 +21,7 @@ pub record IsCutBefore (ds rest : List Digit) : Type 0 where
 -- segments cover the digits from an address on: one after the other they are these digits, and each is cut from those behind it as it must
 -- be
 pub data Covers (IsCut : List Digit → List Digit → Type 0) : ℕ → List Digit → List DigitRun → Type 0 where
-  nothing : {a : ℕ} → Covers IsCut a [] []
+  no_digits : {a : ℕ} → Covers IsCut a [] []
   segment : {a : ℕ} (ds rest : List Digit) {gs : List DigitRun} → IsCut ds rest → Covers IsCut (a + length ds) rest gs
       → Covers IsCut a (ds ++ rest) (record { from = a; digits = ds } ∷ gs)
 

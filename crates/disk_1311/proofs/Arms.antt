@@ -6,11 +6,11 @@ use Rattle.addr_indirect.specs.declared.Stop.{Stop}
 use Rattle.addr_indirect.specs.declared.Stop.TheVariants.{Address}
 use Rattle.addr_indirect.specs.Reading.{read_up}
 use Rattle.traces.specs.Trace.{Trace, ends, does, ◌>>=◌, after_answer}
-use Rattle.traces.specs.Change.{Change, Stores, Lights}
+use Rattle.traces.specs.Change.{Change, StoresCell, Lights}
 use Rattle.outside_io.specs.World.{pack_sector_text}
 use Rattle.disk_1311.specs.declared.control.Control.{Control}
 use Rattle.disk_1311.specs.Control.{control_field}
-use Rattle.disk_1311.specs.Sector.{DiskEffect, Alters, Moves, Records, core_left, alarm_first, read_sector, compare_sector}
+use Rattle.disk_1311.specs.Sector.{DiskEffect, Alters, SetsArm, Records, core_left, alarm_first, read_sector, compare_sector}
 use Rattle.disk_1311.specs.Disk.{Transfer, seek, transfer, move_sectors, move_sector, group_check, is_there, cylinder_of, host_sector, transfer_trace}
 use Rattle.disk_1311.specs.declared.control.TheConstants.{DRIVE_SECTORS}
 use Rattle.disk_1311.specs.DiskCalls.{arms_left, sectors_left}
@@ -25,13 +25,13 @@ use Rattle.indicators.specs.declared.codes.TheConstants.{DISK_ADDRESS}
 abbrev IsStill : List DiskEffect → Type 0
 IsStill [] = ⊤
 IsStill (Alters c ∷ es) = IsStill es
-IsStill (Moves d c ∷ es) = ⊥
+IsStill (SetsArm d c ∷ es) = ⊥
 IsStill (Records a bytes ∷ es) = IsStill es
 
 still_append : (es fs : List DiskEffect) → IsStill es → IsStill fs → IsStill (es ++ fs)
 still_append [] fs still more = more
 still_append (Alters c ∷ es) fs still more = still_append es fs still more
-still_append (Moves d c ∷ es) fs still more = absurd still
+still_append (SetsArm d c ∷ es) fs still more = absurd still
 still_append (Records a bytes ∷ es) fs still more = still_append es fs still more
 
 still_alters : (cs : List Change) → IsStill (map Alters cs)
@@ -40,23 +40,23 @@ still_alters (c ∷ cs) = still_alters cs
 
 still_lights : (es : List DiskEffect) → IsLights es → IsStill es
 still_lights [] lights = tt
-still_lights (Alters (Stores s) ∷ es) lights = absurd lights
+still_lights (Alters (StoresCell s) ∷ es) lights = absurd lights
 still_lights (Alters (Lights l) ∷ es) lights = still_lights es lights
-still_lights (Moves d c ∷ es) lights = absurd lights
+still_lights (SetsArm d c ∷ es) lights = absurd lights
 still_lights (Records a bytes ∷ es) lights = absurd lights
 
 -- such effects, and a first part of them, leave the arms
 arms_still : (old : List ℕ) (es : List DiskEffect) → IsStill es → arms_left old es ≡ old
 arms_still old [] still = refl
 arms_still old (Alters c ∷ es) still = arms_still old es still
-arms_still old (Moves d c ∷ es) still = absurd still
+arms_still old (SetsArm d c ∷ es) still = absurd still
 arms_still old (Records a bytes ∷ es) still = arms_still old es still
 
 first_still : (old : List ℕ) (es : List DiskEffect) (k : ℕ) → IsStill es → arms_left old (take k es) ≡ old
 first_still old es zero still = refl
 first_still old [] (suc k) still = refl
 first_still old (Alters c ∷ es) (suc k) still = first_still old es k still
-first_still old (Moves d c ∷ es) (suc k) still = absurd still
+first_still old (SetsArm d c ∷ es) (suc k) still = absurd still
 first_still old (Records a bytes ∷ es) (suc k) still = first_still old es k still
 
 -- The parts of a transfer.
@@ -122,7 +122,7 @@ module _ (kind : DiskKind) (core : List ℕ) (p : ℕ) (arms : List ℕ) (sector
 
 -- what a seek does once the control field is read, by the test of the sector
 abbrev sought : Control → Bool → Trace DiskEffect ⊤ Stop
-sought c there = if there then does (Moves c.drive (cylinder_of c.sector)) (ends (Ok tt)) else alarm_first DISK_ADDRESS (ends (Ok tt))
+sought c there = if there then does (SetsArm c.drive (cylinder_of c.sector)) (ends (Ok tt)) else alarm_first DISK_ADDRESS (ends (Ok tt))
 
 abbrev after_seek : Control → Trace DiskEffect ⊤ Stop
 after_seek c = sought c (nat_lt c.sector DRIVE_SECTORS)

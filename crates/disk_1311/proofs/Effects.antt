@@ -5,28 +5,28 @@ use Rattle.digit_core.specs.Cell.{store, cell}
 use Rattle.indicators.specs.declared.Panel.{Panel}
 use Rattle.indicators.specs.Panel.{set}
 use Rattle.outside_io.specs.World.{World, Seen, with_sector}
-use Rattle.traces.specs.Change.{Stores, Lights}
-use Rattle.disk_1311.specs.Sector.{DiskEffect, Alters, Moves, Records, core_left}
+use Rattle.traces.specs.Change.{StoresCell, Lights}
+use Rattle.disk_1311.specs.Sector.{DiskEffect, Alters, SetsArm, Records, core_left}
 use Rattle.disk_1311.specs.DiskCalls.{Done, panel_left, sectors_left, world_left}
 
 core_left-append : (core : List ℕ) (es fs : List DiskEffect) → core_left core (es ++ fs) ≡ core_left (core_left core es) fs
 core_left-append core [] fs = refl
-core_left-append core (Alters (Stores s) ∷ es) fs = core_left-append (store core s.at s.digit) es fs
+core_left-append core (Alters (StoresCell s) ∷ es) fs = core_left-append (store core s.at s.digit) es fs
 core_left-append core (Alters (Lights l) ∷ es) fs = core_left-append core es fs
-core_left-append core (Moves d c ∷ es) fs = core_left-append core es fs
+core_left-append core (SetsArm d c ∷ es) fs = core_left-append core es fs
 core_left-append core (Records a bytes ∷ es) fs = core_left-append core es fs
 
 panel_left-append : (panel : Panel) (es fs : List DiskEffect) → panel_left panel (es ++ fs) ≡ panel_left (panel_left panel es) fs
 panel_left-append panel [] fs = refl
-panel_left-append panel (Alters (Stores s) ∷ es) fs = panel_left-append panel es fs
+panel_left-append panel (Alters (StoresCell s) ∷ es) fs = panel_left-append panel es fs
 panel_left-append panel (Alters (Lights l) ∷ es) fs = panel_left-append (set l.code l.to panel) es fs
-panel_left-append panel (Moves d c ∷ es) fs = panel_left-append panel es fs
+panel_left-append panel (SetsArm d c ∷ es) fs = panel_left-append panel es fs
 panel_left-append panel (Records a bytes ∷ es) fs = panel_left-append panel es fs
 
 sectors_left-append : (sectors : ℕ → List ℕ) (es fs : List DiskEffect) → sectors_left sectors (es ++ fs) ≡ sectors_left (sectors_left sectors es) fs
 sectors_left-append sectors [] fs = refl
 sectors_left-append sectors (Alters c ∷ es) fs = sectors_left-append sectors es fs
-sectors_left-append sectors (Moves d c ∷ es) fs = sectors_left-append sectors es fs
+sectors_left-append sectors (SetsArm d c ∷ es) fs = sectors_left-append sectors es fs
 sectors_left-append sectors (Records a bytes ∷ es) fs = sectors_left-append (with_sector a bytes sectors) es fs
 
 -- the outside after two lists of effects
@@ -40,9 +40,9 @@ world_left-append w es fs = ap (λ (o : Option (ℕ → List ℕ)). record w { s
 -- core keeps its length
 pub length_left : (core : List ℕ) (es : List DiskEffect) → length (core_left core es) ≡ length core
 length_left core [] = refl
-length_left core (Alters (Stores s) ∷ es) = length_left (store core s.at s.digit) es ∙ length-set core s.at (cell s.digit)
+length_left core (Alters (StoresCell s) ∷ es) = length_left (store core s.at s.digit) es ∙ length-set core s.at (cell s.digit)
 length_left core (Alters (Lights l) ∷ es) = length_left core es
-length_left core (Moves d c ∷ es) = length_left core es
+length_left core (SetsArm d c ∷ es) = length_left core es
 length_left core (Records a bytes ∷ es) = length_left core es
 
 -- effects were done, and then more of them
@@ -60,23 +60,23 @@ done_on es fs core panel before mid_core mid_panel mid new new_panel after first
 -- the effects change the panel alone
 abbrev pub IsLights : List DiskEffect → Type 0
 IsLights [] = ⊤
-IsLights (Alters (Stores s) ∷ es) = ⊥
+IsLights (Alters (StoresCell s) ∷ es) = ⊥
 IsLights (Alters (Lights l) ∷ es) = IsLights es
-IsLights (Moves d c ∷ es) = ⊥
+IsLights (SetsArm d c ∷ es) = ⊥
 IsLights (Records a bytes ∷ es) = ⊥
 
 core_left-lights : (core : List ℕ) (es : List DiskEffect) → IsLights es → core_left core es ≡ core
 core_left-lights core [] lights = refl
-core_left-lights core (Alters (Stores s) ∷ es) lights = absurd lights
+core_left-lights core (Alters (StoresCell s) ∷ es) lights = absurd lights
 core_left-lights core (Alters (Lights l) ∷ es) lights = core_left-lights core es lights
-core_left-lights core (Moves d c ∷ es) lights = absurd lights
+core_left-lights core (SetsArm d c ∷ es) lights = absurd lights
 core_left-lights core (Records a bytes ∷ es) lights = absurd lights
 
 pub sectors_left-lights : (sectors : ℕ → List ℕ) (es : List DiskEffect) → IsLights es → sectors_left sectors es ≡ sectors
 sectors_left-lights sectors [] lights = refl
-sectors_left-lights sectors (Alters (Stores s) ∷ es) lights = absurd lights
+sectors_left-lights sectors (Alters (StoresCell s) ∷ es) lights = absurd lights
 sectors_left-lights sectors (Alters (Lights l) ∷ es) lights = sectors_left-lights sectors es lights
-sectors_left-lights sectors (Moves d c ∷ es) lights = absurd lights
+sectors_left-lights sectors (SetsArm d c ∷ es) lights = absurd lights
 sectors_left-lights sectors (Records a bytes ∷ es) lights = absurd lights
 
 told_lights : (o : Option (ℕ → List ℕ)) (es : List DiskEffect) → IsLights es → option_map (λ sectors. sectors_left sectors es) o ≡ o

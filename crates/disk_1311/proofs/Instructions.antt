@@ -6,7 +6,7 @@ use Rattle.addr_indirect.specs.declared.Stop.TheVariants.{Address}
 use Rattle.traces.specs.Trace.{ends, does}
 use Rattle.disk_1311.specs.declared.control.Control.{Control}
 use Rattle.disk_1311.specs.Control.{control_field}
-use Rattle.disk_1311.specs.Sector.{Moves, alarm_first}
+use Rattle.disk_1311.specs.Sector.{SetsArm, alarm_first}
 use Rattle.disk_1311.specs.Disk.{seek, transfer, is_there, cylinder_of, transfer_trace}
 use Rattle.disk_1311.specs.declared.control.TheConstants.{DRIVE_SECTORS}
 use Rattle.disk_1311.specs.declared.DiskKind.{DiskKind}
@@ -24,7 +24,7 @@ module _ (core : List ℕ) (p : ℕ) (arms : List ℕ) where
 
   module _ (c : Control) (reads : Ok c ≡ control_field core p (length arms)) where
     -- the arm moves
-    pub seek_moves : c.sector < DRIVE_SECTORS → seek core p arms ≡ does (Moves c.drive (cylinder_of c.sector)) (ends (Ok tt))
+    pub seek_moves : c.sector < DRIVE_SECTORS → seek core p arms ≡ does (SetsArm c.drive (cylinder_of c.sector)) (ends (Ok tt))
     unfolding seek
     seek_moves there = let test : nat_lt c.sector DRIVE_SECTORS ≡ true = grind (arith, nat_tests) in rw (← reads, test)
 

@@ -11,7 +11,7 @@ use Rattle.outside_io.specs.Frame.{Tells}
 use Rattle.addr_indirect.specs.declared.Stop.{Stop}
 use Rattle.addr_indirect.specs.Reading.{read_up}
 use Rattle.traces.specs.Trace.{Trace, ends, does, ◌>>=◌, lift, map_answer}
-use Rattle.traces.specs.Change.{Change, Stores, Lights, Changed, core_after_changes, panel_after_changes}
+use Rattle.traces.specs.Change.{Change, StoresCell, Lights, Changed, core_after_changes, panel_after_changes}
 use Rattle.card_code.specs.Characters.{object_char}
 use Rattle.outside_io.proofs.Packs.{filled_text}
 use Rattle.disk_1311.specs.Sector.{DiskEffect, Alters, Records, core_left, read_sector, compare_sector, write_sector}
@@ -24,12 +24,12 @@ use Rattle.disk_1311.specs.declared.DiskKind.TheVariants.{Rdgn, Cdgn, Rdn, Cdn, 
 -- Changes of core and panel alone, as effects.
 core_left-alters : (core : List ℕ) (cs : List Change) → core_left core (map Alters cs) ≡ core_after_changes core cs
 core_left-alters core [] = refl
-core_left-alters core (Stores s ∷ cs) = core_left-alters (store core s.at s.digit) cs
+core_left-alters core (StoresCell s ∷ cs) = core_left-alters (store core s.at s.digit) cs
 core_left-alters core (Lights l ∷ cs) = core_left-alters core cs
 
 panel_left-alters : (panel : Panel) (cs : List Change) → panel_left panel (map Alters cs) ≡ panel_after_changes panel cs
 panel_left-alters panel [] = refl
-panel_left-alters panel (Stores s ∷ cs) = panel_left-alters panel cs
+panel_left-alters panel (StoresCell s ∷ cs) = panel_left-alters panel cs
 panel_left-alters panel (Lights l ∷ cs) = panel_left-alters (set l.code l.to panel) cs
 
 pub sectors_left-alters : (sectors : ℕ → List ℕ) (cs : List Change) → sectors_left sectors (map Alters cs) ≡ sectors

@@ -10,7 +10,7 @@ use Rattle.addr_indirect.specs.Reading.{read_at}
 use Rattle.traces.specs.Trace.{Trace, ends, does, ◌>>=◌, lift}
 use Rattle.disk_1311.specs.declared.control.Control.{Control}
 use Rattle.disk_1311.specs.Control.{control_field}
-use Rattle.disk_1311.specs.Sector.{DiskEffect, Alters, Moves, alarm_first, then_with, read_sector, compare_sector, write_sector}
+use Rattle.disk_1311.specs.Sector.{DiskEffect, Alters, SetsArm, alarm_first, then_with, read_sector, compare_sector, write_sector}
 use Rattle.disk_1311.specs.declared.DiskKind.{DiskKind}
 use Rattle.disk_1311.specs.declared.DiskKind.TheVariants.{Rdgn, Cdgn, Rdn, Cdn, Wdgn, Wdn}
 use Rattle.disk_1311.specs.declared.control.TheConstants.{DRIVE_SECTORS, CYLINDER_SECTORS}
@@ -33,7 +33,7 @@ unfoldable pub seek : List ℕ → ℕ → List ℕ → Trace DiskEffect ⊤ Sto
 seek core p arms = do
   c ← control_field core p (length arms)
   if nat_lt c.sector DRIVE_SECTORS
-      then does (Moves c.drive (cylinder_of c.sector)) (ends (Ok tt))
+      then does (SetsArm c.drive (cylinder_of c.sector)) (ends (Ok tt))
       else alarm_first DISK_ADDRESS (ends (Ok tt))
 
 -- the forms that look at a group mark

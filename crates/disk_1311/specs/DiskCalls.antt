@@ -6,29 +6,29 @@ use Rattle.indicators.specs.declared.Panel.{Panel}
 use Rattle.indicators.specs.Panel.{set}
 use Rattle.addr_indirect.specs.declared.Stop.{Stop}
 use Rattle.traces.specs.Trace.{Trace}
-use Rattle.traces.specs.Change.{Stores, Lights}
-use Rattle.disk_1311.specs.Sector.{DiskEffect, Alters, Moves, Records, core_left}
+use Rattle.traces.specs.Change.{StoresCell, Lights}
+use Rattle.disk_1311.specs.Sector.{DiskEffect, Alters, SetsArm, Records, core_left}
 use Rattle.disk_1311.specs.declared.DiskIo.{DiskIo}
 use Rattle.disk_1311.specs.declared.DiskIo.TheVariants as io
 
 -- the panel, the arms and what the pack has of its sectors after some effects: reading changes nothing of it
 abbrev pub panel_left : Panel → List DiskEffect → Panel
 panel_left panel [] = panel
-panel_left panel (Alters (Stores s) ∷ es) = panel_left panel es
+panel_left panel (Alters (StoresCell s) ∷ es) = panel_left panel es
 panel_left panel (Alters (Lights l) ∷ es) = panel_left (set l.code l.to panel) es
-panel_left panel (Moves d c ∷ es) = panel_left panel es
+panel_left panel (SetsArm d c ∷ es) = panel_left panel es
 panel_left panel (Records a bytes ∷ es) = panel_left panel es
 
 abbrev pub arms_left : List ℕ → List DiskEffect → List ℕ
 arms_left arms [] = arms
 arms_left arms (Alters c ∷ es) = arms_left arms es
-arms_left arms (Moves d c ∷ es) = arms_left (slice_set arms (d - 1) c) es
+arms_left arms (SetsArm d c ∷ es) = arms_left (slice_set arms (d - 1) c) es
 arms_left arms (Records a bytes ∷ es) = arms_left arms es
 
 abbrev pub sectors_left : (ℕ → List ℕ) → List DiskEffect → ℕ → List ℕ
 sectors_left sectors [] = sectors
 sectors_left sectors (Alters c ∷ es) = sectors_left sectors es
-sectors_left sectors (Moves d c ∷ es) = sectors_left sectors es
+sectors_left sectors (SetsArm d c ∷ es) = sectors_left sectors es
 sectors_left sectors (Records a bytes ∷ es) = sectors_left (with_sector a bytes sectors) es
 
 -- the outside after some effects: its sectors alone change

@@ -7,7 +7,7 @@ use Rattle.digit_core.specs.Cell.{store}
 use Rattle.outside_io.specs.World.{pack_sector_text}
 use Rattle.addr_indirect.specs.declared.Stop.{Stop}
 use Rattle.traces.specs.Trace.{Trace}
-use Rattle.traces.specs.Change.{Stores}
+use Rattle.traces.specs.Change.{StoresCell}
 use Rattle.card_code.specs.Characters.{object_char}
 use Rattle.card_code.proofs.RoundTrips.{object_digit-object_char}
 use Rattle.disk_1311.specs.Sector.{DiskEffect, Alters, read_sector, core_left}
@@ -22,7 +22,7 @@ use Rattle.card_steps.proofs.CardDigits.{laid, laid_length}
 -- digits stored from a upwards, as what the disk does
 abbrev pub stored : ℕ → List Digit → List DiskEffect
 stored a [] = []
-stored a (d ∷ ds) = Alters (Stores (record { at = a; digit = d })) ∷ stored (a + 1) ds
+stored a (d ∷ ds) = Alters (StoresCell (record { at = a; digit = d })) ∷ stored (a + 1) ds
 
 -- and nothing else
 abbrev pub storing : ℕ → List Digit → Trace DiskEffect ⊤ Stop
@@ -34,7 +34,7 @@ unfolding read_sector
 reads_stored [] a g = refl
 reads_stored (d ∷ ds) a g =
     rw (object_digit-object_char d g.0)
-    (ap (λ (es : List DiskEffect). Alters (Stores (record { at = a; digit = d })) ∷ es) (reads_stored ds (a + 1) g.1))
+    (ap (λ (es : List DiskEffect). Alters (StoresCell (record { at = a; digit = d })) ∷ es) (reads_stored ds (a + 1) g.1))
 
 pub reads_well : (ds : List Digit) (a : ℕ) → Good ds → (read_sector a (map object_char ds)).answer ≡ Ok tt
 unfolding read_sector
@@ -60,7 +60,7 @@ stored_joined : (ds es : List Digit) (a : ℕ) → stored a ds ++ stored (a + le
 stored_joined [] es a = let z : a + 0 ≡ a = omega arith in rw z refl
 stored_joined (d ∷ ds) es a =
     let e : a + suc (length ds) ≡ a + 1 + length ds = omega arith in
-    rw e (ap (λ (rest : List DiskEffect). Alters (Stores (record { at = a; digit = d })) ∷ rest) (stored_joined ds es (a + 1)))
+    rw e (ap (λ (rest : List DiskEffect). Alters (StoresCell (record { at = a; digit = d })) ∷ rest) (stored_joined ds es (a + 1)))
 
 -- the digits of so many sectors
 abbrev pub joined : (ℕ → List Digit) → ℕ → ℕ → List Digit

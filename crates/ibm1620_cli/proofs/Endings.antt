@@ -81,12 +81,12 @@ module _ (words : List (List ℕ)) (old new : Seen) (answer : Answer) (t : FedTr
     with_program j = job_with_program (texts_of_program trial_modules source) j
 
     abbrev tried : MachineFeed → Job
-    tried feed = job_behind binds (with_program (job_of_trial t.said.settings.statements t.said.settings.number (card_count trial_modules SelfLoading source) (turns_job (Some (deck_of (program_of trial_modules SelfLoading source))) (made_events (made_of trial_modules SelfLoading source)) (trial_settings t.said.settings).limit (loaded feed))))
+    tried feed = job_behind binds (with_program (job_of_trial t.said.settings (card_count trial_modules SelfLoading source) (turns_job (Some (deck_of (program_of trial_modules SelfLoading source))) (made_events (made_of trial_modules SelfLoading source)) (trial_settings t.said.settings).limit (loaded feed))))
 
     by_source : (o : Option Refusal) → is_own answer.status ≡ true → Does (option_map (job_behind binds) (by o).job) → Ends
     by_source (Some r) own does = inr (ap is_refused does.status)
     by_source None own does =
-        let one : Does (Some (tried t.feed)) = subst Does (ap (λ (o : Option MachineFeed). option_map (job_behind binds) (option_map with_program (option_map (job_of_trial t.said.settings.statements t.said.settings.number (card_count trial_modules SelfLoading source)) (option_map (λ feed. turns_job (Some (deck_of (program_of trial_modules SelfLoading source))) (made_events (made_of trial_modules SelfLoading source)) (trial_settings t.said.settings).limit (loaded feed)) o)))) t.feed_is) does in
+        let one : Does (Some (tried t.feed)) = subst Does (ap (λ (o : Option MachineFeed). option_map (job_behind binds) (option_map with_program (option_map (job_of_trial t.said.settings (card_count trial_modules SelfLoading source)) (option_map (λ feed. turns_job (Some (deck_of (program_of trial_modules SelfLoading source))) (made_events (made_of trial_modules SelfLoading source)) (trial_settings t.said.settings).limit (loaded feed)) o)))) t.feed_is) does in
         let last = last_place (trial_settings t.said.settings).limit (loaded t.feed).first in
         inl (subst (λ (s : Status). ends_a_run s ≡ true) (sym one.status) (own_ends last.steps (ending_of last.state) (subst (λ (s : Status). is_own s ≡ true) one.status own)))
 

@@ -19,7 +19,7 @@ use Rattle.ibm1620_cli.specs.Reading.{read_within, text_read}
 use Rattle.ibm1620_cli.specs.Inputs.{EndsOnce, reads_both}
 use Rattle.ibm1620_cli.specs.Report.{report_line}
 use Rattle.ibm1620_cli.specs.Promise.{Job, ShowsRefusal, Unasked, unasked, StopsAt, texts_alone, Promise, KeepsPromise, job_read, read_promise, InputTexts, with_texts, world_with_texts, AreTold, KeepsFrom, KeepsJob}
-use Rattle.ibm1620_cli.specs.Parts.{Reports, IsAlone, TakesFrom, Loses, Unread, refused, failed, lacking, LeavesUnread}
+use Rattle.ibm1620_cli.specs.Parts.{Reports, IsAlone, TakesFrom, Loses, Unread, refused, host_failed, lacking, LeavesUnread}
 use Rattle.ibm1620_cli.proofs.ToldValues.{if_some, all_some}
 use Rattle.ibm1620_cli.proofs.TakenInputs.{unasked_on, asks_behind}
 use Rattle.ibm1620_cli.proofs.KeptPromises.{ReadyJob, once_same, once_first, report_stays, stays_both, stays_on, stays_less, promise_report, promise_fault, promise_lacking, none_part}
@@ -132,7 +132,7 @@ module _ {A : Type 0} (u : unit.Unit) (other : is_read u ≡ false) (read : List
             program = refl;
           })) reports;
     }
-    promise_unread s answer (failed loses is rose) reports alone = record {
+    promise_unread s answer (host_failed loses is rose) reports alone = record {
       texts = t.with known;
       told = t.told known (told_or (start.world.left u) []);
       keeps = promise_fault (promise known) start later new answer rose (all_some (promise known).job (λ j. subst (λ (shown : Option Console). StopsAt j shown start.world later.world) (sym alone.console) (none_part j start.world later.world (did_taken u loses.gone start.world later.world loses.goes.world) (still loses.gone loses.goes)))) (subst (λ (x : Status). Reports later new x answer.status) is reports) alone.refusal alone.statement;
@@ -226,7 +226,7 @@ takes_stays u old new Says takes = gone_stays u takes.gone old new takes.once ta
 
 pub unread_stays : {A : Type 0} (u : unit.Unit) (read : List ℕ → Result A Status) (old new : Seen) (s : Status) → Unread u read old new s → LeavesUnread (Only u) old.world new.world
 unread_stays u read old new s (refused takes own plain) = takes_stays u old new _ takes
-unread_stays u read old new s (failed loses is rose) = gone_stays u loses.gone old new loses.once loses.goes
+unread_stays u read old new s (host_failed loses is rose) = gone_stays u loses.gone old new loses.once loses.goes
 unread_stays u read old new s (lacking loses is) = gone_stays u loses.gone old new loses.once loses.goes
 
 -- a unit was read, and then others were
@@ -255,7 +255,7 @@ takes_on most u read r start later bytes takes is = record { gone = takes.gone; 
 pub unread_on : {A : Type 0} (most : ℕ) (u : unit.Unit) (read : List ℕ → Result A Status) (start later : Seen) (s : Status) → Unread u (text_read most u) start later s → Unread u (read_within most u read) start later s
 unread_on most u read start later s (refused takes own plain) =
     refused (record { gone = takes.gone; once = takes.once; goes = takes.goes; text = takes.text; told = takes.told; says = too_long (nat_lt most (length takes.text)) (TooLong u) s takes.text read takes.says }) own plain
-unread_on most u read start later s (failed loses is rose) = failed loses is rose
+unread_on most u read start later s (host_failed loses is rose) = host_failed loses is rose
 unread_on most u read start later s (lacking loses is) = lacking loses is
 
 short_text : (most : ℕ) (u : unit.Unit) (text : List ℕ) → length text ≤ most → text_read most u text ≡ Ok text

@@ -39,7 +39,7 @@ use Rattle.ibm1620_cli.specs.declared.answer.Answer.{Answer}
 use Rattle.ibm1620_cli.specs.declared.status.Status.TheVariants.{HostFault, OutOfMemory, SessionEnded}
 use Rattle.ibm1620_cli.specs.Report.{report_line}
 use Rattle.ibm1620_cli.specs.Makings.{AreMakings}
-use Rattle.ibm1620_cli.specs.Ways.{Way, Debugs as BySession, in_key, in_act}
+use Rattle.ibm1620_cli.specs.Ways.{Way, BySession, in_key, in_act}
 use Rattle.ibm1620_cli.specs.Promise.{Job, TakesNone, Unasked, StopsAt, Promise, InputTexts, world_with_texts, answer_of, KeepsPromise}
 use Rattle.ibm1620_cli.specs.Turns.{MachineFeed, feed_at, first_in, LoadedMachine}
 use Rattle.ibm1620_cli.specs.Sessions.{Debugging, course_from, session_from, session_job, session_promise}

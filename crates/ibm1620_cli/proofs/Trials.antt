@@ -43,16 +43,16 @@ steps_fault s n is counts = let none : steps_of s ≡ None = ap steps_of is in l
 steps_memory : (s : Status) (n : ℕ) → s ≡ OutOfMemory → steps_of s ≡ Some n → ⊥
 steps_memory s n is counts = let none : steps_of s ≡ None = ap steps_of is in let both : None ≡ Some n = sym none ∙ counts in cc
 
-module _ (statements number cards : ℕ) (c : Promise) (start mid : Seen) (ran : Answer) where
+module _ (settings : Settings) (cards : ℕ) (c : Promise) (start mid : Seen) (ran : Answer) where
   abbrev whole : Promise
-  whole = with_trial statements number cards c
+  whole = with_trial settings cards c
 
   abbrev tried : Job → Job
-  tried j = job_of_trial statements number cards j
+  tried j = job_of_trial settings cards j
 
   -- the line behind a job that ends so
-  line_by : (j : Job) (o : Option ℕ) → ran.status ≡ j.status → steps_of ran.status ≡ o → line_behind statements number cards (steps_of j.status) ≡ line_behind statements number cards o
-  line_by j o same counts = ap (line_behind statements number cards) (ap steps_of (sym same) ∙ counts)
+  line_by : (j : Job) (o : Option ℕ) → ran.status ≡ j.status → steps_of ran.status ≡ o → line_behind settings cards (steps_of j.status) ≡ line_behind settings cards o
+  line_by j o same counts = ap (line_behind settings cards) (ap steps_of (sym same) ∙ counts)
 
   -- no line is added
   without : steps_of ran.status ≡ None → KeepsPromise c start mid ran → KeepsPromise whole start mid ran
@@ -75,7 +75,7 @@ module _ (statements number cards : ℕ) (c : Promise) (start mid : Seen) (ran :
     part = if_map tried c.job (λ j. StopsAt j ran.console start.world mid.world) (if_some c.job (λ j stops. record {
       did = record {
         done = stops.did.done;
-        part = first_more stops.did.done j.events (text_events units.Report (line_behind statements number cards (steps_of j.status))) stops.did.part;
+        part = first_more stops.did.done j.events (text_events units.Report (line_behind settings cards (steps_of j.status))) stops.did.part;
         did = stops.did.did;
       };
       inputs = stops.inputs;
@@ -85,7 +85,7 @@ module _ (statements number cards : ℕ) (c : Promise) (start mid : Seen) (ran :
 
   module _ (steps : ℕ) (counts : steps_of ran.status ≡ Some steps) where
     abbrev line : List ℕ
-    line = trial_line statements number cards steps
+    line = trial_line settings cards steps
 
     -- the line is added
     with_done : (new : Seen) → Goes mid new (world_after_put units.Report line mid.world) → KeepsPromise c start mid ran → KeepsPromise whole start new ran
@@ -118,16 +118,16 @@ module _ (statements number cards : ℕ) (c : Promise) (start mid : Seen) (ran :
     with_part new later unrefused unstated inputs stops (inr (inr lacks)) = absurd (steps_memory ran.status steps (ap (λ (a : Answer). a.status) lacks.plain) counts)
 
   -- whatever was added
-  promise_with : (new : Seen) (status : Status) → start.faults ≤ mid.faults → ran.refusal ≡ None → ran.statement ≡ None → IfSome c.job HasInputs → (o : Option ℕ) → steps_of ran.status ≡ o → ReportsBy o statements number cards mid new ran.status status → KeepsPromise c start mid ran
+  promise_with : (new : Seen) (status : Status) → start.faults ≤ mid.faults → ran.refusal ≡ None → ran.statement ≡ None → IfSome c.job HasInputs → (o : Option ℕ) → steps_of ran.status ≡ o → ReportsBy o settings cards mid new ran.status status → KeepsPromise c start mid ran
       → KeepsPromise whole start new (record ran { status = status })
   promise_with new status later unrefused unstated inputs None none reports kept = rw (reports.0, reports.1) (without none kept)
   promise_with new status later unrefused unstated inputs (Some steps) counts (inl done) kept = rw done.0 (with_done steps counts new done.1 kept)
   promise_with new status later unrefused unstated inputs (Some steps) counts (inr stops) kept = rw stops.0 (with_part steps counts new later unrefused unstated inputs stops.1 kept)
 
 -- the line binds nothing, and reads nothing
-pub trial_stays : (o : Option ℕ) (statements number cards : ℕ) (old new : Seen) (status answer : Status) → ReportsBy o statements number cards old new status answer → LeavesUnread reads_nothing old.world new.world
-trial_stays None statements number cards old new status answer nothing = stays_same reads_nothing old new nothing.1
-trial_stays (Some steps) statements number cards old new status answer reports = report_stays old new status (trial_line statements number cards steps) answer reports
+pub trial_stays : (o : Option ℕ) (settings : Settings) (cards : ℕ) (old new : Seen) (status answer : Status) → ReportsBy o settings cards old new status answer → LeavesUnread reads_nothing old.world new.world
+trial_stays None settings cards old new status answer nothing = stays_same reads_nothing old new nothing.1
+trial_stays (Some steps) settings cards old new status answer reports = report_stays old new status (trial_line settings cards steps) answer reports
 
 -- Behind the source that was made, where it breaks no rule.
 module _ (settings : Settings) (source : List ℕ) (start : Seen) where
@@ -152,7 +152,7 @@ module _ (settings : Settings) (source : List ℕ) (start : Seen) where
 
   -- its texts are not written, or not all
   pub promise_untried : (new : Seen) (s : Status) → ((s ≡ OutOfMemory) × (new ≡ start)) ⊎ ((s ≡ HostFault) × StopsWithin (made_events (made_of trial_modules SelfLoading source)) start new) → KeepsPromise (tried_promise settings source start.world) start new (answer_of s)
-  promise_untried new s fails = without settings.statements settings.number cards run start new (answer_of s) (counts_none s new fails) (promise_run_unwritten trial_modules (trial_settings settings) [] source start new s fails)
+  promise_untried new s fails = without settings cards run start new (answer_of s) (counts_none s new fails) (promise_run_unwritten trial_modules (trial_settings settings) [] source start new s fails)
 
   run_inputs : Fits program → IfSome run.job HasInputs
   run_inputs fits =
@@ -160,11 +160,11 @@ module _ (settings : Settings) (source : List ℕ) (start : Seen) where
       (all_some (feed_at start.world) (λ feed. turns_inputs (Some (deck_of program)) texts (trial_settings settings).limit (loaded feed) (made_take (made_of trial_modules SelfLoading source)) (program_loaded program fits start.world [] feed)))
 
   -- its program was run, and the line is added
-  pub promise_tried : Fits program → (mid new : Seen) (ran : Answer) (status : Status) (count : ℕ) → count ≡ cards → start.faults ≤ mid.faults → ran.refusal ≡ None → ran.statement ≡ None → ReportsTrial settings.statements settings.number count mid new ran.status status → KeepsPromise run start mid ran
+  pub promise_tried : Fits program → (mid new : Seen) (ran : Answer) (status : Status) (count : ℕ) → count ≡ cards → start.faults ≤ mid.faults → ran.refusal ≡ None → ran.statement ≡ None → ReportsTrial settings count mid new ran.status status → KeepsPromise run start mid ran
       → KeepsPromise (tried_promise settings source start.world) start new (record ran { status = status })
   promise_tried fits mid new ran status count are later unrefused unstated reports kept =
-      promise_with settings.statements settings.number cards run start mid ran new status later unrefused unstated (run_inputs fits) (steps_of ran.status) refl
-      (subst (λ (n : ℕ). ReportsTrial settings.statements settings.number n mid new ran.status status) are reports) kept
+      promise_with settings cards run start mid ran new status later unrefused unstated (run_inputs fits) (steps_of ran.status) refl
+      (subst (λ (n : ℕ). ReportsTrial settings n mid new ran.status status) are reports) kept
 
 -- Behind the making of the source.
 module _ (settings : Settings) (start : Seen) where

@@ -23,7 +23,7 @@ use Rattle.ibm1620_cli.specs.declared.answer.Answer.{Answer}
 use Rattle.ibm1620_cli.specs.declared.status.Status.TheVariants.{HostFault}
 use Rattle.ibm1620_cli.specs.Report.{report_line}
 use Rattle.outside_io.specs.Events.{Event, after_events, cards_in, lines_in, text_events, DidAll}
-use Rattle.ibm1620_cli.specs.Ways.{Way, Runs as ByTurns, in_turns}
+use Rattle.ibm1620_cli.specs.Ways.{Way, ByRun, in_turns}
 use Rattle.ibm1620_cli.specs.Promise.{MachineEnd, Job, LeavesMachine, ShowsRefusal, EndsWithAnswer, TakesNone, AsksForInputs, asked, StopsAt, Promise, KeepsPromise, is_own, is_usage}
 use Rattle.operator_script.specs.TurnEvents.{run_events}
 use Rattle.ibm1620_cli.specs.Turns.{status_of, LoadedMachine, turns_job, turns_promise}
@@ -51,7 +51,7 @@ supply_of own l = record { own = own; pile = l.pile; cards = l.cards; keys = l.k
 
 -- the way of its turns
 abbrev pub way_of : ℕ → LoadedMachine → Way
-way_of limit l = ByTurns l.powered l.steps limit l.first
+way_of limit l = ByRun l.powered l.steps limit l.first
 
 -- a state with the cards and the lines that a machine had at power on
 abbrev pub state_unloaded : LoadedMachine → State

@@ -10,7 +10,7 @@ use Rattle.outside_io.specs.World.{World, Seen, Goes, same_unit}
 use Rattle.outside_io.specs.Whole.{Sends}
 use Rattle.outside_io.specs.Events.{Event, BindFile, WriteByte, WriteSector, TakeCard, TakeLine, after_event, after_events, text_events}
 use Rattle.outside_io.proofs.EventLemmas.{after_append, after_text, same_of, first_text, first_on, first_more, FailsWithin}
-use Rattle.cpu_step.specs.Effects.{Effect, Cell, Light, Arm, Written, Sector, CardTaken, LineTaken}
+use Rattle.cpu_step.specs.Effects.{Effect, CellStored, Light, Arm, Written, Sector, CardTaken, LineTaken}
 use Rattle.cpu_step.specs.State.{State}
 use Rattle.cpu_step.specs.Step.{instruction}
 use Rattle.cpu_step.specs.Load.{state_for_load, load_trace}
@@ -124,7 +124,7 @@ stops_asked ds old new stops = goes_unasked stops.done old new stops.goes
 
 writes_effects : (es : List Effect) → AreWrites (all_outside es)
 writes_effects [] = tt
-writes_effects (Cell s ∷ es) = writes_effects es
+writes_effects (CellStored s ∷ es) = writes_effects es
 writes_effects (Light l ∷ es) = writes_effects es
 writes_effects (Arm drive cylinder ∷ es) = writes_effects es
 writes_effects (Written u byte ∷ es) = writes_effects es

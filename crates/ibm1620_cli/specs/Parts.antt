@@ -109,7 +109,7 @@ pub data Unread {A : Type 0} (u : unit.Unit) (read : List ℕ → Result A Statu
     : Type 0 where
   refused : TakesFrom u old new (λ text. read text ≡ Err s) → is_own s ≡ true → is_usage s ≡ false
       → Unread u read old new s
-  failed : Loses u old new → s ≡ HostFault → Rose old.faults new.faults → Unread u read old new s
+  host_failed : Loses u old new → s ≡ HostFault → Rose old.faults new.faults → Unread u read old new s
   lacking : Loses u old new → s ≡ OutOfMemory → Unread u read old new s
 
 -- the reading of a unit that has so many bytes at most; the error is the status of a job without them
@@ -298,11 +298,11 @@ pub data HoldsSession (m limit : ℕ) (placed : List PlacedText) (hopper : Hoppe
 
 -- a line is added behind the report line of a status that counts steps, or the host failed after a part of it; for other statuses nothing
 -- is done
-abbrev pub ReportsBy : Option ℕ → ℕ → ℕ → ℕ → Seen → Seen → Status → Status → Type 0
-ReportsBy None statements number cards old new status answer = (answer ≡ status) × (new ≡ old)
-ReportsBy (Some steps) statements number cards old new status answer =
-    ReportsAs old new status (trial_line statements number cards steps) answer
+abbrev pub ReportsBy : Option ℕ → Settings → ℕ → Seen → Seen → Status → Status → Type 0
+ReportsBy None settings cards old new status answer = (answer ≡ status) × (new ≡ old)
+ReportsBy (Some steps) settings cards old new status answer =
+    ReportsAs old new status (trial_line settings cards steps) answer
 
-abbrev pub ReportsTrial : ℕ → ℕ → ℕ → Seen → Seen → Status → Status → Type 0
-ReportsTrial statements number cards old new status answer =
-    ReportsBy (steps_of status) statements number cards old new status answer
+abbrev pub ReportsTrial : Settings → ℕ → Seen → Seen → Status → Status → Type 0
+ReportsTrial settings cards old new status answer =
+    ReportsBy (steps_of status) settings cards old new status answer

@@ -8,7 +8,7 @@ use Rattle.console_debug.specs.declared.commands.DebugCommand.{DebugCommand}
 use Rattle.console_debug.specs.Session.{Course as SessionCourse, Session, session_of, at_first, place_of_session, session_events}
 use Rattle.ibm1620_cli.specs.declared.status.Status.TheVariants.{SessionEnded}
 use Rattle.ibm1620_cli.specs.Report.{report_line}
-use Rattle.ibm1620_cli.specs.Ways.{Debugs}
+use Rattle.ibm1620_cli.specs.Ways.{BySession}
 use Rattle.ibm1620_cli.specs.Promise.{Job, job_leaving, texts_alone, Promise}
 use Rattle.ibm1620_cli.specs.Turns.{LoadedMachine}
 
@@ -34,7 +34,7 @@ session_job own before g loaded =
     let session = session_from g loaded.first in
     let place = place_of_session (course_from g loaded.first) session in
     job_leaving (Some (record { state = place.state; own = own; pile = loaded.pile; cards = loaded.cards; keys = loaded.keys }))
-    (Some (Debugs loaded.powered (course_from g loaded.first) session.acts)) SessionEnded (report_line SessionEnded)
+    (Some (BySession loaded.powered (course_from g loaded.first) session.acts)) SessionEnded (report_line SessionEnded)
     (before ++ (loaded.taken ++ session_events (course_from g loaded.first) session.acts))
 
 -- THE PROMISE OF A SESSION over a machine that is loaded by what the host tells, behind what was done before; no more than that is done

@@ -33,28 +33,28 @@ steps_of (NeedKeys at steps) = Some steps
 steps_of other = None
 
 -- the line of a trial: the numbers of its source, the cards of its deck, and the steps of its run
-abbrev pub trial_line : ℕ → ℕ → ℕ → ℕ → List ℕ
-trial_line statements number cards steps =
-    codes "TRIAL STATEMENTS " ++ decimal statements
-    ++ codes " NUMBER " ++ decimal number
+abbrev pub trial_line : Settings → ℕ → ℕ → List ℕ
+trial_line settings cards steps =
+    codes "TRIAL STATEMENTS " ++ decimal settings.statements
+    ++ codes " NUMBER " ++ decimal settings.number
     ++ codes " CARDS " ++ decimal cards
     ++ codes " STEPS " ++ at_count steps
 
 -- it stands behind the report line of a status that counts steps
-abbrev pub line_behind : ℕ → ℕ → ℕ → Option ℕ → List ℕ
-line_behind statements number cards None = []
-line_behind statements number cards (Some steps) = trial_line statements number cards steps
+abbrev pub line_behind : Settings → ℕ → Option ℕ → List ℕ
+line_behind settings cards None = []
+line_behind settings cards (Some steps) = trial_line settings cards steps
 
 -- the same job, and behind all else that it does the line of a trial
-abbrev pub job_of_trial : ℕ → ℕ → ℕ → Job → Job
-job_of_trial statements number cards j = record j {
-  events = j.events ++ text_events units.Report (line_behind statements number cards (steps_of j.status));
+abbrev pub job_of_trial : Settings → ℕ → Job → Job
+job_of_trial settings cards j = record j {
+  events = j.events ++ text_events units.Report (line_behind settings cards (steps_of j.status));
 }
 
 -- the same promise, with the line of a trial
-abbrev pub with_trial : ℕ → ℕ → ℕ → Promise → Promise
-with_trial statements number cards c = record {
-  job = option_map (job_of_trial statements number cards) c.job;
+abbrev pub with_trial : Settings → ℕ → Promise → Promise
+with_trial settings cards c = record {
+  job = option_map (job_of_trial settings cards) c.job;
   made = c.made;
   usage = c.usage;
 }
@@ -63,7 +63,7 @@ with_trial statements number cards c = record {
 abbrev pub tried_promise : Settings → List ℕ → World → Promise
 tried_promise settings source w =
     let run = turned_promise trial_modules (trial_settings settings) [] source w in
-    with_trial settings.statements settings.number (card_count trial_modules SelfLoading source) run
+    with_trial settings (card_count trial_modules SelfLoading source) run
 
 -- THE PROMISE OF A TRIAL, from the world in which its files are bound
 abbrev pub trial_promise : Settings → World → Promise

@@ -15,7 +15,7 @@ use Rattle.operator_script.specs.TurnEvents.{run_events}
 use Rattle.ibm1620_cli.specs.declared.status.Status.{Status}
 use Rattle.ibm1620_cli.specs.declared.status.Status.TheVariants.{Halted, CheckStop, Limit, NeedCards, NeedKeys, HostFault, Jam}
 use Rattle.ibm1620_cli.specs.Report.{report_line}
-use Rattle.ibm1620_cli.specs.Ways.{Runs}
+use Rattle.ibm1620_cli.specs.Ways.{ByRun}
 use Rattle.ibm1620_cli.specs.Promise.{Job, job_leaving, texts_alone, Promise}
 
 -- what the machine is fed with besides the cards of a deck: the data cards, the keyboard, and the sectors of the pack
@@ -97,7 +97,7 @@ turns_job own before limit loaded =
     let last = last_place limit loaded.first in
     let status = status_of last.steps (ending_of last.state) in
     job_leaving (Some (record { state = last.state; own = own; pile = loaded.pile; cards = loaded.cards; keys = loaded.keys }))
-    (Some (Runs loaded.powered loaded.steps limit loaded.first)) status (report_line status)
+    (Some (ByRun loaded.powered loaded.steps limit loaded.first)) status (report_line status)
     (before ++ (loaded.taken ++ run_events limit loaded.first))
 
 -- THE PROMISE OF THE TURNS of a machine that is loaded by what the host tells, behind what was done before; no more than that is done where

@@ -9,8 +9,8 @@ use Rattle.console_debug.specs.Debugs.{IsWithinAct}
 -- THE WAY OF A MACHINE: it was powered on, its Load key is pressed, so many steps are made without a script, and then the turns are taken from a
 -- first place on, up to a limit; or, behind the Load key, a session does its acts over a course.
 pub data Way : Type 0 where
-  Runs : (powered : State) (steps limit : ℕ) (first : RunPlace) → Way
-  Debugs : (powered : State) (course : Course) (acts : List Act) → Way
+  ByRun : (powered : State) (steps limit : ℕ) (first : RunPlace) → Way
+  BySession : (powered : State) (course : Course) (acts : List Act) → Way
 
 -- where the Load key leaves a machine that was powered on, before its deck's steps
 abbrev pub behind_key : State → RunPlace
@@ -30,5 +30,5 @@ pub data StandsInSession (powered : State) (c : Course) (acts : List Act) (s : S
 
 -- where a machine stands on its way
 abbrev pub StandsOn : Way → State → Type 0
-StandsOn (Runs powered steps limit first) s = StandsInRun powered steps limit first s
-StandsOn (Debugs powered c acts) s = StandsInSession powered c acts s
+StandsOn (ByRun powered steps limit first) s = StandsInRun powered steps limit first s
+StandsOn (BySession powered c acts) s = StandsInSession powered c acts s

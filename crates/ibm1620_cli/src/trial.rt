@@ -73,13 +73,13 @@ fn try_assembled<H: Host>(
 
 // Adds the line of a trial behind the report line of a status that counts steps.
 fn report_trial<H: Host>(host: &mut H, status: Status, settings: Settings, cards: u32) -> Status
-    ensures { ReportsTrial settings.statements settings.number cards
+    ensures { ReportsTrial settings cards
         (H.seen host.old) (H.seen host.new) status result }
 {
     let Some(steps) = steps_of(status) else {
         return status;
     };
-    let line = trial_line(settings.statements, settings.number, cards, steps);
+    let line = trial_line(settings, cards, steps);
     match write_all(host, Unit::Report, line.as_bytes()) {
         Sent::Done => status,
         Sent::Failed => Status::HostFault,
@@ -101,14 +101,14 @@ fn steps_of(status: Status) -> Option<u64>
 }
 
 // The line of a trial.
-fn trial_line(statements: u32, number: u32, cards: u32, steps: u64) -> ArrayString<LONGEST_LINE>
-    ensures { result.bytes ≡ trial_line statements number cards steps }
+fn trial_line(settings: Settings, cards: u32, steps: u64) -> ArrayString<LONGEST_LINE>
+    ensures { result.bytes ≡ trial_line settings cards steps }
 {
     let mut line = ArrayString::new();
     line.push_str("TRIAL STATEMENTS ");
-    push_number(&mut line, statements);
+    push_number(&mut line, settings.statements);
     line.push_str(" NUMBER ");
-    push_number(&mut line, number);
+    push_number(&mut line, settings.number);
     line.push_str(" CARDS ");
     push_number(&mut line, cards);
     line.push_str(" STEPS ");

@@ -1,7 +1,6 @@
 -- What a job says of its end.
-use Rattle.std.specs.Prelude.{ℕ, ◌≡◌, Bool, true, false, ◌&&◌, ◌||◌, ◌==◌, List, [], ◌++◌, Option, None, Some, IfOk, option_copied, option_map, option_and_then, is_none, if◌then◌else◌}
+use Rattle.std.specs.Prelude.{ℕ, ◌≡◌, Bool, true, false, ◌&&◌, ◌||◌, ◌==◌, List, [], ◌++◌, Option, None, Some, IfOk, option_copied, is_none, if◌then◌else◌}
 use Rattle.std.specs.Fmt.{option_append}
-use Rattle.outside_io.specs.declared.trouble.Trouble.{Trouble}
 use Rattle.read_checks.specs.declared.Tally.{Tally}
 use Rattle.read_checks.specs.declared.BadCharacter.{BadCharacter}
 use Rattle.command_line.specs.Words.{plain}

@@ -8,7 +8,7 @@ use Rattle.sps_pass_two.specs.Kept.{IsRunBelow, IsImage, rises}
 use Rattle.deck_punch.specs.declared.form.DeckForm.{DeckForm}
 use Rattle.deck_punch.specs.declared.form.DeckForm.TheVariants.{SelfLoading}
 use Rattle.deck_punch.specs.Cut.{cut, cut_as, cut_piece_as}
-use Rattle.deck_punch.specs.Cover.{Covers, nothing, segment}
+use Rattle.deck_punch.specs.Cover.{Covers, no_digits, segment}
 use Rattle.deck_punch.specs.Cards.{card_of, transfer_card}
 use Rattle.deck_punch.specs.Tables.{with_tables}
 use Rattle.deck_punch.specs.Deck.{deck}
@@ -17,7 +17,7 @@ use Rattle.deck_punch.proofs.WithTables.{with_tables_image}
 
 -- a cover has no more segments than digits
 pub cover_few : {form : DeckForm} {a : ℕ} {ds : List Digit} {gs : List DigitRun} → Covers (IsFront form) a ds gs → length gs ≤ length ds
-cover_few nothing = omega arith
+cover_few no_digits = omega arith
 cover_few (segment ds rest cut more) =
     let l = length-append ds rest in
     let few = cover_few more in

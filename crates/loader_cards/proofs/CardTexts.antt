@@ -6,7 +6,7 @@ use Rattle.digit_core.specs.Cell.{with_flag}
 use Rattle.sps_pass_two.specs.Image.{DigitRun}
 use Rattle.deck_punch.specs.Cards.{right_part, segment_digits, card_of, transfer_card}
 use Rattle.deck_punch.specs.Cut.{cut_as, cut_piece_as}
-use Rattle.deck_punch.specs.Cover.{Covers, nothing, segment}
+use Rattle.deck_punch.specs.Cover.{Covers, no_digits, segment}
 use Rattle.deck_punch.specs.Deck.{cards_of, deck}
 use Rattle.deck_punch.specs.Tables.{table_piece, other_pieces, with_tables}
 use Rattle.deck_punch.specs.Dense.{first_flagged, repair_of, dense_part, dense_digits, dense_card_of, loader_digits, loader_card, bridge_digits, bridge_card, dense_cards_of, dense_deck}
@@ -23,7 +23,7 @@ use Rattle.deck_punch.proofs.TransferCard.{transfer_text}
 -- the cards of pieces, where each segment's is a card
 module _ (form : DeckForm) (card : DigitRun → List ℕ) (each : (a : ℕ) (ds rest : List Digit) → IsFront form ds rest → IsCardText (card (record { from = a; digits = ds }))) where
   covers_texts : {a : ℕ} {ds : List Digit} {gs : List DigitRun} → Covers (IsFront form) a ds gs → AreCardTexts (map card gs)
-  covers_texts nothing = tt
+  covers_texts no_digits = tt
   covers_texts {a = a} (segment ds rest front more) = (each a ds rest front, covers_texts more)
 
   form_texts : (pieces : List DigitRun) → AreCardTexts (map card (cut_as form pieces))

@@ -10,7 +10,7 @@ use Rattle.sps_pass_two.specs.Kept.{IsPiece, IsRunBelow}
 use Rattle.deck_punch.specs.declared.form.DeckForm.TheVariants.{Dense}
 use Rattle.deck_punch.specs.Cut.{flags_within, cut_as, cut_dense, cut_piece_dense}
 use Rattle.card_columns.specs.Orders.{nth}
-use Rattle.deck_punch.specs.Cover.{Covers, nothing, segment}
+use Rattle.deck_punch.specs.Cover.{Covers, no_digits, segment}
 use Rattle.deck_punch.proofs.Covering.{flag_count, flagged, IsFront, form_covers, is_off, none_flagged, few_before}
 use Rattle.deck_punch.proofs.WithTables.{IsBehind}
 
@@ -79,7 +79,7 @@ dense_at n a (d ∷ es) rest front low high good = record {
 }
 
 cover_dense : {a : ℕ} {ds : List Digit} {gs : List DigitRun} → Covers (IsFront Dense) a ds gs → (n : ℕ) → 400 ≤ a → a + length ds ≤ n → ((i : ℕ) → i < length ds → IsGood (nth ds i)) → AreDense n gs
-cover_dense nothing n low high good = tt
+cover_dense no_digits n low high good = tt
 cover_dense {a = a} (segment ds rest front more) n low high good =
     let l = length-append ds rest in (
       dense_at n a ds rest front low (omega arith) (λ i h. subst IsGood (get_or_append_left ds rest _ i h) (good i (omega arith))),

@@ -9,7 +9,7 @@ use Rattle.sps_pass_two.specs.Image.{DigitRun, digit_at, declared_digit, or_else
 use Rattle.sps_pass_two.specs.Kept.{IsPiece, IsRunBelow, lowest_declared}
 use Rattle.deck_punch.specs.Cut.{cut, cut_piece, cut_as}
 use Rattle.card_columns.specs.Orders.{nth}
-use Rattle.deck_punch.specs.Cover.{IsCutBefore, Covers, nothing, segment}
+use Rattle.deck_punch.specs.Cover.{IsCutBefore, Covers, no_digits, segment}
 use Rattle.deck_punch.proofs.Covering.{cut_covers}
 use Rattle.deck_punch.proofs.Declaring.{below, above, within}
 use Rattle.deck_punch.proofs.WithTables.{IsBehind}
@@ -59,7 +59,7 @@ cell_twice None p x = refl
 
 -- a cover's runs are segments
 pub cover_segments : {a : ℕ} {ds : List Digit} {gs : List DigitRun} → Covers IsCutBefore a ds gs → (n : ℕ) → 100 ≤ a → a + length ds ≤ n → ((i : ℕ) → i < length ds → IsGood (nth ds i)) → AreSegments n gs
-cover_segments nothing n low high good = tt
+cover_segments no_digits n low high good = tt
 cover_segments {a = a} (segment ds rest cut more) n low high good =
     let l = length-append ds rest in
     let some : 1 ≤ length ds = cut.some in (

@@ -1,10 +1,10 @@
 -- What a rule says that a statement breaks, for a size of core.
 -- Source: this project's own.
-use Rattle.std.specs.Prelude.{ℕ, ◌-◌, ◌*◌, Option, None, Some, List, ◌++◌, codes, decimal}
+use Rattle.std.specs.Prelude.{ℕ, ◌-◌, ◌*◌, Option, None, Some, List, ◌++◌, decimal}
 use Rattle.command_line.specs.declared.words.CoreSize.{CoreSize}
 use Rattle.command_line.specs.declared.words.CoreSize.TheVariants.{OneModule, TwoModules, ThreeModules}
 use Rattle.digit_core.specs.declared.TheConstants.{MODULE}
-use Rattle.sps_ops.specs.Rules.{RuleWords, rule_sentence}
+use Rattle.sps_ops.specs.Rules.{rule_sentence}
 use Rattle.message_hints.specs.declared.rules.Breach.{Breach}
 
 -- how many positions core has

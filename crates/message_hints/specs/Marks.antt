@@ -1,6 +1,6 @@
 -- Which columns of a statement break its rule.
 -- Source: SPS manual, coding sheet; which columns are marked is this project's own.
-use Rattle.std.specs.Prelude.{ℕ, ◌≡◌, ◌≤◌, ◌+◌, ◌-◌, ◌==◌, Option, None, Some, IfSome, List, [], length, if◌then◌else◌}
+use Rattle.std.specs.Prelude.{ℕ, ◌≡◌, ◌≤◌, ◌+◌, ◌-◌, ◌==◌, Option, None, Some, IfSome, List, length, if◌then◌else◌}
 use Rattle.std.specs.List.{take_while}
 use Rattle.line_words.specs.Blanks.{trimmed}
 use Rattle.sps_ops.specs.declared.rule.Rule.{Rule}

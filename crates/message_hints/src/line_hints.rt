@@ -4,6 +4,7 @@ ghost use Rattle.std.specs.Fmt.{WritesOnOk};
 ghost use Rattle.message_hints.specs.Lines.{byte_text, wide_text, line_hint_text};
 
 use crate::escapes::Cell;
+use sps_scan::SPECIALS;
 use std::fmt;
 
 /// A hint on a line by the rule 1 or 2 that it breaks.
@@ -66,7 +67,7 @@ fn write_byte<W: fmt::Write>(f: &mut fmt::Formatter<W>, byte: u8, column: usize)
         write!(
             f,
             "ibm1620: a byte {cell} in column {column}: \
-             write blanks, A to Z, 0 to 9 or . ) + $ * - / , ( = @\n"
+             write blanks, A to Z, 0 to 9 or{SPECIALS}\n"
         )
     }
 }
@@ -88,7 +89,7 @@ fn write_wide<W: fmt::Write>(
         write!(
             f,
             "ibm1620: the character {character} in column {column}: \
-             write blanks, A to Z, 0 to 9 or . ) + $ * - / , ( = @\n"
+             write blanks, A to Z, 0 to 9 or{SPECIALS}\n"
         )
     }
 }

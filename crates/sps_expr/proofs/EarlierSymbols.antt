@@ -3,7 +3,7 @@ use Rattle.std.proofs.Common.{◌≡◌, ℕ, ℤ, pos, ◌+ℤ◌, ◌*ℤ◌, 
 use Rattle.std.specs.List.{list_any}
 use Rattle.std.proofs.lemmas.Bool.Decides.{nat_tests}
 use Rattle.sps_expr.specs.Symbol.{SymbolEntry, find, with_head, symbol_of}
-use Rattle.sps_expr.specs.Grammar.{Factor, Here, Number, Name, Headed, Term, Signed, Expr}
+use Rattle.sps_expr.specs.Grammar.{Factor, Here, Numeral, Name, Headed, Term, Signed, Expr}
 use Rattle.sps_expr.specs.Reading.{reading, without_blanks}
 use Rattle.sps_expr.specs.Value.{Scope, ◌>>=◌, number_in_range, is_found_late, is_undefined, comes_late, factor_value, product, term_value, total, signed_value, is_minus, expr_value, any_factor, value_answer, tree_outcome, value_of}
 use Rattle.sps_expr.specs.Earlier.{if_earlier, AreEarlier, undefined_for_late}
@@ -61,7 +61,7 @@ module _ (head : Option ℕ) (earlier all : List SymbolEntry) (here : ℤ) (befo
 
   undefined_both : (f : Factor) → is_undefined early f ≡ (is_undefined late f || comes_late late f)
   undefined_both Here = refl
-  undefined_both (Number digits) = refl
+  undefined_both (Numeral digits) = refl
   undefined_both (Name name) = rw (known (symbol_of head name)) (unknown (find (symbol_of head name) all))
   undefined_both (Headed own name) = rw (known (with_head own name)) (unknown (find (with_head own name) all))
 
@@ -71,7 +71,7 @@ module _ (head : Option ℕ) (earlier all : List SymbolEntry) (here : ℤ) (befo
 
   never_late : (f : Factor) → comes_late early f ≡ false
   never_late Here = refl
-  never_late (Number digits) = refl
+  never_late (Numeral digits) = refl
   never_late (Name name) = not_late (find (symbol_of head name) earlier)
   never_late (Headed own name) = not_late (find (with_head own name) earlier)
 
@@ -81,7 +81,7 @@ module _ (head : Option ℕ) (earlier all : List SymbolEntry) (here : ℤ) (befo
 
   same_factor : (f : Factor) → is_undefined early f ≡ false → factor_value early f ≡ factor_value late f
   same_factor Here e = refl
-  same_factor (Number digits) e = refl
+  same_factor (Numeral digits) e = refl
   same_factor (Name name) e = let k = rw (known (symbol_of head name)) at e in rw (known (symbol_of head name), same_found (find (symbol_of head name) all) k)
   same_factor (Headed own name) e = let k = rw (known (with_head own name)) at e in rw (known (with_head own name), same_found (find (with_head own name) all) k)
 

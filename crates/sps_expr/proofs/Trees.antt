@@ -4,7 +4,7 @@ use Rattle.std.specs.List.{list_all}
 use Rattle.std.specs.Bool.{⊤}
 use Rattle.std.proofs.lemmas.Bool.Decides.{nat_tests}
 use Rattle.std.specs.Char.{is_ascii_digit}
-use Rattle.sps_expr.specs.Grammar.{Factor, Here, Number, Name, Headed, Term, Signed, Expr, is_letter_or_digit, is_word, is_name, is_head_char, is_nothing, is_factor, headed_text, is_term, is_expr, factor_text, factors_text, term_text, terms_text, sign_byte, sign_text, expr_text, IsReading}
+use Rattle.sps_expr.specs.Grammar.{Factor, Here, Numeral, Name, Headed, Term, Signed, Expr, is_letter_or_digit, is_word, is_name, is_head_char, is_nothing, is_factor, headed_text, is_term, is_expr, factor_text, factors_text, term_text, terms_text, sign_byte, sign_text, expr_text, IsReading}
 use Rattle.sps_expr.specs.Reading.{Token, Word, Mark, Tail, tokens, onto_token, tail_of, reading, with_mark, unsigned_expr, expr_of, with_sign, factor_of, is_run_byte, behind_dollar, plain_name, behind_first, name_factor, word_factor}
 use Rattle.sps_expr.specs.Steps.{run, past_run}
 use Rattle.sps_expr.proofs.Cases.{by_bool, by_option, and_parts}
@@ -75,7 +75,7 @@ no_dollar b r d = by_bool (is_letter_or_digit b) (λ w. w) (λ w. absurd (let k 
 is_no_dollar : (b : ℕ) → is_letter_or_digit b ≡ true → (b == 36) ≡ false
 is_no_dollar b w = grind (arith, nat_tests)
 
-number_ok : (word : List ℕ) → is_run word ≡ true → list_all is_ascii_digit word ≡ true → FactorOk (Word word) (Number word)
+number_ok : (word : List ℕ) → is_run word ≡ true → list_all is_ascii_digit word ≡ true → FactorOk (Word word) (Numeral word)
 number_ok word g d =
     let q = and_parts (not (is_nothing word)) (list_all is_run_byte word) g in
     record { is_good = rw (q.0, digits_word word d, d); spelled = refl }
@@ -108,7 +108,7 @@ name_ok (b ∷ bs) f g e =
 
 word_ok : (word : List ℕ) (f : Factor) → is_run word ≡ true → word_factor word ≡ Some f → FactorOk (Word word) f
 word_ok word f g e = by_bool (list_all is_ascii_digit word)
-    (λ d. let k = rw d at e in let j : Number word ≡ f = cc in subst (FactorOk (Word word)) j (number_ok word g d))
+    (λ d. let k = rw d at e in let j : Numeral word ≡ f = cc in subst (FactorOk (Word word)) j (number_ok word g d))
     (λ d. name_ok word f (and_parts (not (is_nothing word)) (list_all is_run_byte word) g).1 (let k = rw d at e in k))
 
 factor_ok : (t : Token) (f : Factor) → good_token t ≡ true → factor_of t ≡ Some f → FactorOk t f
@@ -246,7 +246,7 @@ headed_is h name w g = rw (is_no_dollar h w, g)
 
 factor_then : (f : Factor) (rest : List ℕ) → is_factor f ≡ true → NotWord rest → Reads f rest
 factor_then Here rest g r = record { token = Mark 42; front = mark_tokens 42 rest refl; is = refl }
-factor_then (Number digits) rest g r =
+factor_then (Numeral digits) rest g r =
     let p = and_parts (is_word digits) (list_all is_ascii_digit digits) g in
     record { token = Word digits; front = word_then digits rest p.0 r; is = rw p.1 }
 factor_then (Name name) rest g r =

@@ -7,7 +7,7 @@ use Rattle.std.specs.Char.{is_ascii_digit}
 -- the location, a number in its digits, a name, or a name behind a `$` and, before that, its head, if it has one
 pub data Factor : Type 0 where
   Here : Factor
-  Number : (digits : List ℕ) → Factor
+  Numeral : (digits : List ℕ) → Factor
   Name : (name : List ℕ) → Factor
   Headed : (head : Option ℕ) (name : List ℕ) → Factor
 
@@ -56,7 +56,7 @@ is_head_char (Some h) = is_letter_or_digit h
 -- a number is a word of digits; a name is any other word, of at most six characters, and of at most five behind a `$`
 abbrev pub is_factor : Factor → Bool
 is_factor Here = true
-is_factor (Number digits) = is_word digits && list_all is_ascii_digit digits
+is_factor (Numeral digits) = is_word digits && list_all is_ascii_digit digits
 is_factor (Name name) = is_name name && nat_le (length name) 6
 is_factor (Headed head name) = is_head_char head && (is_name name && nat_le (length name) 5)
 
@@ -76,7 +76,7 @@ headed_text (Some h) name = h ∷ 36 ∷ name
 -- a factor as it is written; the location is `*`
 abbrev pub factor_text : Factor → List ℕ
 factor_text Here = 42 ∷ []
-factor_text (Number digits) = digits
+factor_text (Numeral digits) = digits
 factor_text (Name name) = name
 factor_text (Headed head name) = headed_text head name
 

@@ -2,7 +2,7 @@
 use Rattle.std.specs.Prelude.{ℕ, Bool, true, false, not, List, [], ◌∷◌, length, Option, Some, None, nat_le, if◌then◌else◌, filter, ◌==◌, ◌&&◌, ◌||◌}
 use Rattle.std.specs.List.{list_all}
 use Rattle.std.specs.Char.{is_ascii_digit}
-use Rattle.sps_expr.specs.Grammar.{Factor, Here, Number, Name, Headed, Signed, Expr, is_letter_or_digit, is_name}
+use Rattle.sps_expr.specs.Grammar.{Factor, Here, Numeral, Name, Headed, Signed, Expr, is_letter_or_digit, is_name}
 
 -- a letter, a digit or a `$`
 abbrev pub is_run_byte : ℕ → Bool
@@ -44,7 +44,7 @@ name_factor (b ∷ bs) = if b == 36 then behind_dollar None bs else behind_first
 
 -- a run as a factor: a number, or a name that is not too long
 abbrev pub word_factor : List ℕ → Option Factor
-word_factor word = if list_all is_ascii_digit word then Some (Number word) else name_factor word
+word_factor word = if list_all is_ascii_digit word then Some (Numeral word) else name_factor word
 
 -- a token as a factor
 abbrev pub factor_of : Token → Option Factor

@@ -8,7 +8,7 @@ use Rattle.sps_ops.specs.declared.rule.Rule.{Rule}
 use Rattle.sps_expr.specs.declared.expression.FactorResult.{FactorResult}
 use Rattle.sps_expr.specs.declared.expression.PartialResult.{PartialResult}
 use Rattle.sps_expr.specs.declared.word.Word.{Word}
-use Rattle.sps_expr.specs.Grammar.{Factor, Here, Number, Name, Headed}
+use Rattle.sps_expr.specs.Grammar.{Factor, Here, Numeral, Name, Headed}
 use Rattle.sps_expr.specs.Reading.{Token, tokens, factor_of, is_run_byte, word_factor, unsigned_expr, without_blanks}
 use Rattle.sps_expr.specs.Symbol.{find, with_head, symbol_of}
 use Rattle.sps_expr.specs.Value.{Scope, ◌>>=◌, number_in_range, factor_value, is_undefined, comes_late, signed_value, value_answer, tree_outcome}
@@ -101,7 +101,7 @@ pub record IsWord (word : Word) (text : List ℕ) : Type 0 where
 -- the symbol that a name stands for
 abbrev pub symbol_in : Option ℕ → Factor → List ℕ
 symbol_in head Here = []
-symbol_in head (Number digits) = []
+symbol_in head (Numeral digits) = []
 symbol_in head (Name name) = symbol_of head name
 symbol_in head (Headed own name) = with_head own name
 

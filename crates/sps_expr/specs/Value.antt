@@ -5,7 +5,7 @@ use Rattle.std.specs.List.{list_any}
 use Rattle.sps_scan.specs.Numbers.{decimal_number}
 use Rattle.sps_ops.specs.declared.rule.Rule.{Rule}
 use Rattle.sps_ops.specs.declared.rule.Rule.TheVariants.{BadExpression, UndefinedSymbol, LateSymbol, ValueTooLarge}
-use Rattle.sps_expr.specs.Grammar.{Factor, Here, Number, Name, Headed, Term, Signed, Expr, IsReading}
+use Rattle.sps_expr.specs.Grammar.{Factor, Here, Numeral, Name, Headed, Term, Signed, Expr, IsReading}
 use Rattle.sps_expr.specs.Reading.{reading, without_blanks}
 use Rattle.sps_expr.specs.Symbol.{SymbolEntry, find, with_head, symbol_of}
 use Rattle.sps_expr.specs.declared.scope.Scope.{Scope as GivenScope}
@@ -69,7 +69,7 @@ comes_late scope f = false
 -- the value of a factor
 abbrev pub factor_value : Scope → Factor → Option ℤ
 factor_value scope Here = number_in_range scope.here
-factor_value scope (Number digits) = number_in_range (pos (decimal_number digits))
+factor_value scope (Numeral digits) = number_in_range (pos (decimal_number digits))
 factor_value scope (Name name) = number_in_range (symbol_value (find (symbol_of scope.head name) scope.symbols))
 factor_value scope (Headed head name) = number_in_range (symbol_value (find (with_head head name) scope.symbols))
 

@@ -1,5 +1,5 @@
 -- The statements that are still to come, and what comes of them.
-use Rattle.std.proofs.Common.{◌≡◌, ℕ, ◌+◌, Bool, List, [], ◌∷◌, refl, sym, ap, ◌∙◌, Option}
+use Rattle.std.proofs.Common.{◌≡◌, ℕ, ◌+◌, List, [], ◌∷◌, refl, sym, ap, ◌∙◌}
 use Rattle.sps_scan.specs.Statement.{statement_of}
 use Rattle.sps_pass_one.specs.Layout.{PassState, first, state_before_next, PassStep, pass_step, statements, statements_of}
 use Rattle.sps_pass_one.specs.Walk.{WalkText, walk_of, one_further, walk_past}

@@ -6,8 +6,8 @@ use Rattle.line_words.specs.Blanks.{trimmed}
 use Rattle.sps_expr.specs.Symbol.{SymbolEntry}
 use Rattle.sps_pass_one.specs.declared.place.Place.{Place}
 use Rattle.sps_pass_one.specs.declared.place.Placing.{Placing}
-use Rattle.sps_pass_one.specs.Layout.{PassState, first, state_before_next, counts_if, placing_if, placing, symbols_if, pass_step, statements, state_behind, statement_place, place_by_placing, statement_places, symbols_of}
-use Rattle.sps_pass_one.specs.Walk.{WalkText, walk_of, one_further, walk_past}
+use Rattle.sps_pass_one.specs.Layout.{PassState, state_before_next, counts_if, placing_if, placing, symbols_if, pass_step, statements, state_behind, statement_place, place_by_placing, statement_places, symbols_of}
+use Rattle.sps_pass_one.specs.Walk.{WalkText, walk_of}
 use Rattle.sps_pass_one.proofs.Walking.{Passes}
 
 -- a state by what a walk has

@@ -2,4 +2,5 @@ pub mod AllowedTable
 pub mod Fronts
 pub mod Parting
 pub mod Places
+pub mod SpecialTable
 pub mod Statements

@@ -2,6 +2,11 @@
 ghost use Rattle.std.specs.Prelude.{◌≡◌};
 ghost use Rattle.sps_scan.specs.Statement.{is_allowed};
 
+/// The special characters of the assembler, those that are no letter, no digit and no blank, each behind a blank: as a message tells them.
+///
+/// Source: SPS manual, coding sheet; their order, that of their pairs of digits, is this project's own.
+pub const SPECIALS: &str = " . ) + $ * - / , ( = @";
+
 // Whether each byte is a character of the assembler.
 const ALLOWED: [bool; 256] = [
     // The bytes below the blank.

@@ -13,6 +13,7 @@ mod columns;
 mod operands;
 mod statement;
 
+pub use characters::SPECIALS;
 use characters::is_allowed;
 use columns::{columns, is_blank};
 use operands::operands_of;

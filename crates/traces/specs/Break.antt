@@ -6,14 +6,14 @@ use Rattle.traces.specs.Trace.{Trace, map_reason, with_reason}
 
 -- a stop, no card, no line of keys, or a line that is too long, with its number in its unit
 pub data Break : Type 0 where
-  Stops : (why : Stop) → Break
+  StopsBy : (why : Stop) → Break
   Empty : Break
   NoKeys : Break
-  Jam : (from : unit.Unit) (line : ℕ) → Break
+  JamsAt : (from : unit.Unit) (line : ℕ) → Break
 
 -- a reading, and an action, that stops alone end
 abbrev pub or_break : {A : Type 0} → Result A Stop → Result A Break
-or_break r = map_reason Stops r
+or_break r = map_reason StopsBy r
 
 abbrev pub stop_as_break : {F A : Type 0} → Trace F A Stop → Trace F A Break
-stop_as_break t = with_reason Stops t
+stop_as_break t = with_reason StopsBy t

@@ -10,12 +10,12 @@ use Rattle.traces.specs.Stored.{Stored}
 
 -- a digit is stored, or an indicator changes
 pub data Change : Type 0 where
-  Stores : (s : Stored) → Change
+  StoresCell : (s : Stored) → Change
   Lights : (l : Lamp) → Change
 
 -- one change, and then the rest
 abbrev pub store_first : {A E : Type 0} → ℕ → Digit → Trace Change A E → Trace Change A E
-store_first a d t = does (Stores (record { at = a; digit = d })) t
+store_first a d t = does (StoresCell (record { at = a; digit = d })) t
 
 abbrev pub light_first : {A E : Type 0} → ℕ → Trace Change A E → Trace Change A E
 light_first code t = does (Lights (lamp_on code)) t
@@ -23,12 +23,12 @@ light_first code t = does (Lights (lamp_on code)) t
 -- the core and the panel after some changes
 abbrev pub core_after_changes : List ℕ → List Change → List ℕ
 core_after_changes core [] = core
-core_after_changes core (Stores s ∷ cs) = core_after_changes (store core s.at s.digit) cs
+core_after_changes core (StoresCell s ∷ cs) = core_after_changes (store core s.at s.digit) cs
 core_after_changes core (Lights l ∷ cs) = core_after_changes core cs
 
 abbrev pub panel_after_changes : Panel → List Change → Panel
 panel_after_changes p [] = p
-panel_after_changes p (Stores s ∷ cs) = panel_after_changes p cs
+panel_after_changes p (StoresCell s ∷ cs) = panel_after_changes p cs
 panel_after_changes p (Lights l ∷ cs) = panel_after_changes (set l.code l.to p) cs
 
 -- an action over core and panel was carried out

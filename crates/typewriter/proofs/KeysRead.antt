@@ -7,7 +7,7 @@ use Rattle.outside_io.specs.declared.host.Unit.TheVariants as units
 use Rattle.outside_io.specs.World.{World, Seen}
 use Rattle.traces.specs.Trace.{Trace, map_reason}
 use Rattle.traces.specs.Change.{Change, Changed}
-use Rattle.traces.specs.Break.{Break, Stops}
+use Rattle.traces.specs.Break.{Break, StopsBy}
 use Rattle.card_code.specs.Entries.{Entry}
 use Rattle.card_code.specs.TextIn.{Intake, store_digits, store_pairs}
 use Rattle.card_code.specs.Feed.{Station, station, GivesEntry, Lacks, ReadsAll}
@@ -25,7 +25,7 @@ use Rattle.typewriter.specs.KeyCalls.{ReadsLineBy, HasReadOneLine, HasReadLineAs
 use Rattle.typewriter.proofs.LinesRead.{line_stored, reading_stored}
 
 -- a reading's answer is that of the call
-reads_by : (t : List Entry → Trace Intake ⊤ Break) (old new : Station Keyboard) (answer : Result ⊤ Stop) (got : KeyIo) → got ≡ line_stored_ending answer → ReadsAll key_feed t old new (map_reason Stops answer) → ReadsLineBy t old new got
+reads_by : (t : List Entry → Trace Intake ⊤ Break) (old new : Station Keyboard) (answer : Result ⊤ Stop) (got : KeyIo) → got ≡ line_stored_ending answer → ReadsAll key_feed t old new (map_reason StopsBy answer) → ReadsLineBy t old new got
 reads_by t old new (Ok done) got ends all = subst (λ (x : KeyIo). ReadsLineBy t old new x) (sym ends) all
 reads_by t old new (Err why) got ends all = subst (λ (x : KeyIo). ReadsLineBy t old new x) (sym ends) all
 
@@ -72,7 +72,7 @@ module _ (how : ReadAs) (room : ℕ) where
 module _ (stored : List ℕ → Trace Change ⊤ Stop) (core : List ℕ) (panel : Panel) where
   -- the call's answer and what it leaves are those of the reading
   line_read : (text : List ℕ) (new : List ℕ) (new_panel : Panel) (answer : Result ⊤ Stop) (old next : Keyboard) (before after : Seen) → GivesEntry key_feed old next before after text
-      → (bytes : List ℕ) → bytes ≡ text → Changed core panel (stored bytes) new new_panel answer → ReadsAll key_feed (λ es. take_keys es stored) (station core panel old before) (station new new_panel next after) (map_reason Stops answer)
+      → (bytes : List ℕ) → bytes ≡ text → Changed core panel (stored bytes) new new_panel answer → ReadsAll key_feed (λ es. take_keys es stored) (station core panel old before) (station new new_panel next after) (map_reason StopsBy answer)
   line_read text new new_panel answer old next before after gives bytes same changed =
       entry_read key_feed stored (station core panel old before) (station new new_panel next after) text answer gives (subst (λ (x : List ℕ). Changed core panel (stored x) new new_panel answer) same changed)
 

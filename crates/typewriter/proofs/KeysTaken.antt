@@ -5,7 +5,7 @@ use Rattle.outside_io.specs.declared.host.Unit as unit
 use Rattle.outside_io.specs.declared.host.Unit.TheVariants as units
 use Rattle.outside_io.specs.World.{Seen, Goes, world_after_take}
 use Rattle.outside_io.proofs.Frames.{give}
-use Rattle.traces.specs.Break.{NoKeys, Jam}
+use Rattle.traces.specs.Break.{NoKeys, JamsAt}
 use Rattle.card_code.specs.declared.lines.LineAnswer.{LineAnswer}
 use Rattle.card_code.specs.declared.lines.LineAnswer.TheVariants as answer
 use Rattle.card_code.specs.LineText.{text_of_line}
@@ -30,7 +30,7 @@ none_next None none = tt
 none_next (Some es) none = ap next_keys none
 
 -- nor where a jam is at the front
-long_next : (n : ℕ) (told : Told) → Fronts (Long units.Keys n) told → IfSome told (λ es. next_keys es ≡ Err (Jam units.Keys n))
+long_next : (n : ℕ) (told : Told) → Fronts (Long units.Keys n) told → IfSome told (λ es. next_keys es ≡ Err (JamsAt units.Keys n))
 long_next n None front = tt
 long_next n (Some es) front = ap next_keys front
 
@@ -54,7 +54,7 @@ module _ (old new : Keyboard) (before after : Seen) where
   }
   next_taken (answer.Jam n) looks entry = record {
     stays = record { looks = looks; left = entry.0 };
-    given = give (keys_left old before.world) (λ es. next_keys es ≡ Err (Jam units.Keys n)) (Long units.Keys n ∷ []) refl (long_next n (keys_left old before.world) entry.1);
+    given = give (keys_left old before.world) (λ es. next_keys es ≡ Err (JamsAt units.Keys n)) (Long units.Keys n ∷ []) refl (long_next n (keys_left old before.world) entry.1);
   }
   next_taken answer.Failed looks entry = record { stays = record { looks = looks; left = entry.0 }; rose = entry.1 }
 

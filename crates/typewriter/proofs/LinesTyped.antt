@@ -12,7 +12,7 @@ use Rattle.outside_io.specs.Whole.{Stops}
 use Rattle.outside_io.proofs.Worlds.{adds_on}
 use Rattle.addr_indirect.specs.declared.Stop.{Stop}
 use Rattle.traces.specs.Trace.{Trace, ends, does, does_all}
-use Rattle.card_code.specs.TextOut.{Output, Writes, bytes_out, lamps_of, panel_after_pair}
+use Rattle.card_code.specs.TextOut.{Output, WritesByte, bytes_out, lamps_of, panel_after_pair}
 use Rattle.card_code.specs.Written.{CarriedOut}
 use Rattle.card_code.proofs.TextsOut.{put_on}
 use Rattle.typewriter.specs.declared.typing.TypeIo.{TypeIo}
@@ -59,15 +59,15 @@ line_failed line t now after stops = record {
 }
 
 -- bytes alone, as effects
-writes_bytes : (bytes : List ℕ) → bytes_out (map Writes bytes) ≡ bytes
+writes_bytes : (bytes : List ℕ) → bytes_out (map WritesByte bytes) ≡ bytes
 writes_bytes [] = refl
 writes_bytes (b ∷ bytes) = ap (λ (x : List ℕ). b ∷ x) (writes_bytes bytes)
 
-writes_no_lamp : (bytes : List ℕ) → lamps_of (map Writes bytes) ≡ []
+writes_no_lamp : (bytes : List ℕ) → lamps_of (map WritesByte bytes) ≡ []
 writes_no_lamp [] = refl
 writes_no_lamp (b ∷ bytes) = writes_no_lamp bytes
 
-put_bytes : (bytes : List ℕ) (panel : Panel) (now after : Seen) → Goes now after (world_after_put units.Typed bytes now.world) → CarriedOut units.Typed (map Writes bytes) panel now panel after
+put_bytes : (bytes : List ℕ) (panel : Panel) (now after : Seen) → Goes now after (world_after_put units.Typed bytes now.world) → CarriedOut units.Typed (map WritesByte bytes) panel now panel after
 put_bytes bytes panel now after goes = record {
   goes = subst (λ (x : List ℕ). Goes now after (world_after_put units.Typed x now.world)) (sym (writes_bytes bytes)) goes;
   shows = ap (λ (x : List Lamp). panel_after panel x) (sym (writes_no_lamp bytes));
@@ -75,60 +75,60 @@ put_bytes bytes panel now after goes = record {
 
 -- The same of pairs.
 gone_pairs : (gone : List ℕ) (t : Trace Output ⊤ Stop) (panel new_panel : Panel) (now mid after : Seen) (answer : TypeIo) → Goes now mid (world_after_put units.Typed gone now.world)
-    → TypesPairs t panel mid new_panel after answer → TypesPairs (does_all (map Writes gone) t) panel now new_panel after answer
-gone_pairs gone t panel new_panel now mid after io.Done goes rest = record { answers = rest.answers; puts = put_on units.Typed (map Writes gone) t.effects panel panel new_panel now mid after (put_bytes gone panel now mid goes) rest.puts }
-gone_pairs gone t panel new_panel now mid after (io.Stop s) goes rest = record { answers = rest.answers; puts = put_on units.Typed (map Writes gone) t.effects panel panel new_panel now mid after (put_bytes gone panel now mid goes) rest.puts }
+    → TypesPairs t panel mid new_panel after answer → TypesPairs (does_all (map WritesByte gone) t) panel now new_panel after answer
+gone_pairs gone t panel new_panel now mid after io.Done goes rest = record { answers = rest.answers; puts = put_on units.Typed (map WritesByte gone) t.effects panel panel new_panel now mid after (put_bytes gone panel now mid goes) rest.puts }
+gone_pairs gone t panel new_panel now mid after (io.Stop s) goes rest = record { answers = rest.answers; puts = put_on units.Typed (map WritesByte gone) t.effects panel panel new_panel now mid after (put_bytes gone panel now mid goes) rest.puts }
 gone_pairs gone t panel new_panel now mid after io.Failed goes rest = record {
-  done = length (map Writes gone) + rest.done;
-  puts = subst (λ (x : List Output). CarriedOut units.Typed x panel now new_panel after) (sym (take-append-add (map Writes gone) t.effects rest.done)) (put_on units.Typed (map Writes gone) (take rest.done t.effects) panel panel new_panel now mid after (put_bytes gone panel now mid goes) rest.puts);
+  done = length (map WritesByte gone) + rest.done;
+  puts = subst (λ (x : List Output). CarriedOut units.Typed x panel now new_panel after) (sym (take-append-add (map WritesByte gone) t.effects rest.done)) (put_on units.Typed (map WritesByte gone) (take rest.done t.effects) panel panel new_panel now mid after (put_bytes gone panel now mid goes) rest.puts);
   rose = omega (arith, goes.later, rest.rose);
 }
 
 -- the write check goes on, and then the rest
-check_on : (t : Trace Output ⊤ Stop) (panel new_panel : Panel) (now after : Seen) (answer : TypeIo) → TypesPairs (does (Writes 32) t) (panel_after_pair None panel) now new_panel after answer → TypesPairs (pair_first None t) panel now new_panel after answer
+check_on : (t : Trace Output ⊤ Stop) (panel new_panel : Panel) (now after : Seen) (answer : TypeIo) → TypesPairs (does (WritesByte 32) t) (panel_after_pair None panel) now new_panel after answer → TypesPairs (pair_first None t) panel now new_panel after answer
 check_on t panel new_panel now after io.Done rest = record { answers = rest.answers; puts = record { goes = rest.puts.goes; shows = rest.puts.shows } }
 check_on t panel new_panel now after (io.Stop s) rest = record { answers = rest.answers; puts = record { goes = rest.puts.goes; shows = rest.puts.shows } }
 check_on t panel new_panel now after io.Failed rest = record { done = suc rest.done; puts = record { goes = rest.puts.goes; shows = rest.puts.shows }; rose = rest.rose }
 
 -- the character of one pair more waits
 pub pair_more : (char : Option ℕ) (old : List ℕ) (panel : Panel) (new : List ℕ) (mid_panel new_panel : Panel) (t : Trace Output ⊤ Stop) (now mid after : Seen) (answer : TypeIo) → AddsPair char old panel new mid_panel now mid sent.Done
-    → TypesPairs (does_all (map Writes new) t) mid_panel mid new_panel after answer → TypesPairs (does_all (map Writes old) (pair_first char t)) panel now new_panel after answer
+    → TypesPairs (does_all (map WritesByte new) t) mid_panel mid new_panel after answer → TypesPairs (does_all (map WritesByte old) (pair_first char t)) panel now new_panel after answer
 pair_more (Some c) old panel new mid_panel new_panel t now mid after answer adds rest =
     let more = adds.0 in
-    let same : map Writes more.gone ++ (map Writes new ++ t.effects) ≡ map Writes old ++ Writes c ∷ t.effects =
-    sym (append_assoc (map Writes more.gone) (map Writes new) t.effects)
-    ∙ ap (λ (x : List Output). x ++ t.effects) (sym (map-append Writes more.gone new) ∙ ap (λ (x : List ℕ). map Writes x) more.parts ∙ map-append Writes old (c ∷ []))
-    ∙ append_assoc (map Writes old) (Writes c ∷ []) t.effects in
-    let on : TypesPairs (does_all (map Writes new) t) panel mid new_panel after answer = subst (λ (p : Panel). TypesPairs (does_all (map Writes new) t) p mid new_panel after answer) adds.1 rest in
+    let same : map WritesByte more.gone ++ (map WritesByte new ++ t.effects) ≡ map WritesByte old ++ WritesByte c ∷ t.effects =
+    sym (append_assoc (map WritesByte more.gone) (map WritesByte new) t.effects)
+    ∙ ap (λ (x : List Output). x ++ t.effects) (sym (map-append WritesByte more.gone new) ∙ ap (λ (x : List ℕ). map WritesByte x) more.parts ∙ map-append WritesByte old (c ∷ []))
+    ∙ append_assoc (map WritesByte old) (WritesByte c ∷ []) t.effects in
+    let on : TypesPairs (does_all (map WritesByte new) t) panel mid new_panel after answer = subst (λ (p : Panel). TypesPairs (does_all (map WritesByte new) t) p mid new_panel after answer) adds.1 rest in
     subst (λ (x : List Output). TypesPairs (record { effects = x; answer = t.answer }) panel now new_panel after answer) same
-    (gone_pairs more.gone (does_all (map Writes new) t) panel new_panel now mid after answer more.goes on)
+    (gone_pairs more.gone (does_all (map WritesByte new) t) panel new_panel now mid after answer more.goes on)
 pair_more None old panel new mid_panel new_panel t now mid after answer adds rest =
-    let on : TypesPairs (does_all (map Writes (32 ∷ [])) t) (panel_after_pair None panel) mid new_panel after answer = rw (adds.blank, adds.seen) at rest in
+    let on : TypesPairs (does_all (map WritesByte (32 ∷ [])) t) (panel_after_pair None panel) mid new_panel after answer = rw (adds.blank, adds.seen) at rest in
     gone_pairs old (pair_first None t) panel new_panel now mid after answer adds.goes (check_on t panel new_panel mid after answer on)
 
 -- the host failed within the line; the panel is as it was
-pub pairs_failed : (line : List ℕ) (t : Trace Output ⊤ Stop) (panel : Panel) (now after : Seen) → Stops now after units.Typed line → TypesPairs (does_all (map Writes line) t) panel now panel after io.Failed
+pub pairs_failed : (line : List ℕ) (t : Trace Output ⊤ Stop) (panel : Panel) (now after : Seen) → Stops now after units.Typed line → TypesPairs (does_all (map WritesByte line) t) panel now panel after io.Failed
 pairs_failed line t panel now after stops =
-    let parts : map Writes stops.written ++ map Writes stops.rest ≡ map Writes line = sym (map-append Writes stops.written stops.rest) ∙ ap (λ (x : List ℕ). map Writes x) stops.parts in
+    let parts : map WritesByte stops.written ++ map WritesByte stops.rest ≡ map WritesByte line = sym (map-append WritesByte stops.written stops.rest) ∙ ap (λ (x : List ℕ). map WritesByte x) stops.parts in
     record {
-      done = length (map Writes stops.written);
-      puts = subst (λ (x : List Output). CarriedOut units.Typed x panel now panel after) (sym (part_of (map Writes stops.written) (map Writes stops.rest) (map Writes line) t.effects parts)) (put_bytes stops.written panel now after stops.goes);
+      done = length (map WritesByte stops.written);
+      puts = subst (λ (x : List Output). CarriedOut units.Typed x panel now panel after) (sym (part_of (map WritesByte stops.written) (map WritesByte stops.rest) (map WritesByte line) t.effects parts)) (put_bytes stops.written panel now after stops.goes);
       rose = stops.rose;
     }
 
 -- which is so of whatever pair was to be added
 pub pair_failed : (char : Option ℕ) (old : List ℕ) (panel : Panel) (new : List ℕ) (new_panel : Panel) (t : Trace Output ⊤ Stop) (now after : Seen) → AddsPair char old panel new new_panel now after sent.Failed
-    → TypesPairs (does_all (map Writes old) t) panel now new_panel after io.Failed
-pair_failed (Some c) old panel new new_panel t now after adds = subst (λ (p : Panel). TypesPairs (does_all (map Writes old) t) panel now p after io.Failed) (sym adds.1) (pairs_failed old t panel now after adds.0)
-pair_failed None old panel new new_panel t now after adds = subst (λ (p : Panel). TypesPairs (does_all (map Writes old) t) panel now p after io.Failed) (sym adds.1) (pairs_failed old t panel now after adds.0)
+    → TypesPairs (does_all (map WritesByte old) t) panel now new_panel after io.Failed
+pair_failed (Some c) old panel new new_panel t now after adds = subst (λ (p : Panel). TypesPairs (does_all (map WritesByte old) t) panel now p after io.Failed) (sym adds.1) (pairs_failed old t panel now after adds.0)
+pair_failed None old panel new new_panel t now after adds = subst (λ (p : Panel). TypesPairs (does_all (map WritesByte old) t) panel now p after io.Failed) (sym adds.1) (pairs_failed old t panel now after adds.0)
 
 -- bytes that were typed are those of pairs
-pub as_pairs : (line : List ℕ) (r : Result ⊤ Stop) (panel : Panel) (now after : Seen) (answer : TypeIo) → Types (does_all line (ends r)) now after answer → TypesPairs (does_all (map Writes line) (ends r)) panel now panel after answer
-as_pairs line r panel now after io.Done typed = record { answers = typed.answers; puts = subst (λ (x : List Output). CarriedOut units.Typed x panel now panel after) (map-append Writes line []) (put_bytes (line ++ []) panel now after typed.goes) }
-as_pairs line r panel now after (io.Stop s) typed = record { answers = typed.answers; puts = subst (λ (x : List Output). CarriedOut units.Typed x panel now panel after) (map-append Writes line []) (put_bytes (line ++ []) panel now after typed.goes) }
+pub as_pairs : (line : List ℕ) (r : Result ⊤ Stop) (panel : Panel) (now after : Seen) (answer : TypeIo) → Types (does_all line (ends r)) now after answer → TypesPairs (does_all (map WritesByte line) (ends r)) panel now panel after answer
+as_pairs line r panel now after io.Done typed = record { answers = typed.answers; puts = subst (λ (x : List Output). CarriedOut units.Typed x panel now panel after) (map-append WritesByte line []) (put_bytes (line ++ []) panel now after typed.goes) }
+as_pairs line r panel now after (io.Stop s) typed = record { answers = typed.answers; puts = subst (λ (x : List Output). CarriedOut units.Typed x panel now panel after) (map-append WritesByte line []) (put_bytes (line ++ []) panel now after typed.goes) }
 as_pairs line r panel now after io.Failed typed =
-    let same : map Writes (take typed.done (line ++ [])) ≡ take typed.done (map Writes line ++ []) =
-    sym (take-map Writes typed.done (line ++ [])) ∙ ap (λ (x : List Output). take typed.done x) (map-append Writes line []) in
+    let same : map WritesByte (take typed.done (line ++ [])) ≡ take typed.done (map WritesByte line ++ []) =
+    sym (take-map WritesByte typed.done (line ++ [])) ∙ ap (λ (x : List Output). take typed.done x) (map-append WritesByte line []) in
     record {
       done = typed.done;
       puts = subst (λ (x : List Output). CarriedOut units.Typed x panel now panel after) same (put_bytes (take typed.done (line ++ [])) panel now after typed.goes);

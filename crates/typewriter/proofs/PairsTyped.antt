@@ -11,7 +11,7 @@ use Rattle.addr_indirect.specs.declared.Stop.{Stop}
 use Rattle.addr_indirect.specs.declared.Stop.TheVariants.{Address}
 use Rattle.addr_indirect.specs.Reading.{read_at, or_stop}
 use Rattle.traces.specs.Trace.{Trace, does, ends}
-use Rattle.card_code.specs.TextOut.{Output, Writes, with_pair, pair_char}
+use Rattle.card_code.specs.TextOut.{Output, WritesByte, with_pair, pair_char}
 use Rattle.typewriter.specs.declared.typing.TypeIo.{TypeIo}
 use Rattle.typewriter.specs.Typing.{type_pairs, TypesPairs}
 
@@ -24,7 +24,7 @@ starts t panel now = record { by = λ new_panel after answer h. h }
 
 -- the character of a pair, and then the rest
 abbrev pub pair_first : Option ℕ → Trace Output ⊤ Stop → Trace Output ⊤ Stop
-pair_first char t = with_pair char (λ c. does (Writes c) t)
+pair_first char t = with_pair char (λ c. does (WritesByte c) t)
 
 -- a zone cell that stops
 zone_stops : (a z : ℕ) (rest : List ℕ) (s : Stop) → or_stop a (read_cell z) ≡ Err s → type_pairs a (z ∷ rest) ≡ ends (Err s)

@@ -4,7 +4,7 @@ use Rattle.outside_io.specs.declared.host.Unit.TheVariants as units
 use Rattle.outside_io.specs.World.{World, Seen}
 use Rattle.addr_indirect.specs.declared.Stop.{Stop}
 use Rattle.traces.specs.Trace.{Trace}
-use Rattle.traces.specs.Break.{Break, Stops, NoKeys, Jam}
+use Rattle.traces.specs.Break.{Break, StopsBy, NoKeys, JamsAt}
 use Rattle.card_code.specs.{Entry, Intake, Station, ReadsIn}
 use Rattle.typewriter.specs.declared.keyboard.Keyboard.{Keyboard}
 use Rattle.typewriter.specs.declared.reading.KeyIo.{KeyIo}
@@ -16,9 +16,9 @@ use Rattle.typewriter.specs.Keys.{key_feed, HasReadLinesBy}
 -- how a reading ended; None where the host failed
 abbrev pub line_reading_ending : KeyIo → Option (Result ⊤ Break)
 line_reading_ending io.Done = Some (Ok tt)
-line_reading_ending (io.Stop why) = Some (Err (Stops why))
+line_reading_ending (io.Stop why) = Some (Err (StopsBy why))
 line_reading_ending io.NoKeys = Some (Err NoKeys)
-line_reading_ending (io.Jam n) = Some (Err (Jam units.Keys n))
+line_reading_ending (io.Jam n) = Some (Err (JamsAt units.Keys n))
 line_reading_ending io.Failed = None
 
 -- what a reading with the trace t does

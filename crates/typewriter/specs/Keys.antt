@@ -8,7 +8,7 @@ use Rattle.outside_io.specs.World.{World, Readings, Seen, Goes, world_after_take
 use Rattle.addr_indirect.specs.declared.Stop.{Stop}
 use Rattle.traces.specs.Trace.{Trace}
 use Rattle.traces.specs.Change.{Change}
-use Rattle.traces.specs.Break.{Break, NoKeys, Jam}
+use Rattle.traces.specs.Break.{Break, NoKeys, JamsAt}
 use Rattle.card_code.specs.declared.lines.LineAnswer.{LineAnswer}
 use Rattle.card_code.specs.declared.lines.LineAnswer.TheVariants as answer
 use Rattle.card_code.specs.{text_of_line, Entry, next_keys, Intake, store_digits, store_pairs, entries_left, bytes_held, HasWhole, TakesNeeded}
@@ -53,7 +53,7 @@ key_feed = record { left = keys_left; Looks = LooksAtKeys; next = next_keys }
 abbrev pub line_ending : LineAnswer → Option (Result (List ℕ) Break)
 line_ending (answer.Line line) = Some (Ok (text_of_line line))
 line_ending answer.End = Some (Err NoKeys)
-line_ending (answer.Jam n) = Some (Err (Jam units.Keys n))
+line_ending (answer.Jam n) = Some (Err (JamsAt units.Keys n))
 line_ending answer.Failed = None
 
 -- what the taking of a line does

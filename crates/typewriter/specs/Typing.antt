@@ -11,7 +11,7 @@ use Rattle.addr_indirect.specs.declared.Stop.{Stop}
 use Rattle.addr_indirect.specs.declared.Stop.TheVariants.{Address}
 use Rattle.addr_indirect.specs.Reading.{or_stop}
 use Rattle.traces.specs.Trace.{Trace, ends, does, ◌>>=◌, does_all}
-use Rattle.card_code.specs.{object_char, Output, Writes, with_pair, pair_char, WrotePairs, WroteFirstPairs}
+use Rattle.card_code.specs.{object_char, Output, WritesByte, with_pair, pair_char, WrotePairs, WroteFirstPairs}
 pub use Rattle.card_code.specs.Written.{Wrote, WroteFirst}
 use Rattle.typewriter.specs.declared.typing.TypeIo.{TypeIo}
 use Rattle.typewriter.specs.declared.typing.TypeIo.TheVariants as io
@@ -38,7 +38,7 @@ type_pairs a (z ∷ c ∷ cs) = do
   number ← or_stop (a + 1) (read_cell c)
   if number.value == RECORD_MARK
       then ends (Ok tt)
-      else with_pair (pair_char zone number) (λ char. does (Writes char) (type_pairs (a + 2) cs))
+      else with_pair (pair_char zone number) (λ char. does (WritesByte char) (type_pairs (a + 2) cs))
 
 -- WA on the typewriter: the pairs from P-1 and P
 abbrev pub write_alphameric : List ℕ → ℕ → Trace Output ⊤ Stop

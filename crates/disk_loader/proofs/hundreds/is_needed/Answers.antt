@@ -1,5 +1,5 @@
-use Rattle.std.proofs.Common.{◌*◌, ◌∙◌, List, map, take, arith}
-use Rattle.sps_pass_two.specs.Kept.{IsPiece, IsRunBelow}
+use Rattle.std.proofs.Common.{◌∙◌, List, map, take, arith}
+use Rattle.sps_pass_two.specs.Kept.{IsRunBelow}
 use Rattle.sps_pass_two.specs.Image.{DigitRun}
 use Rattle.sps_pass_two.specs.Types.{run_of}
 use Rattle.deck_punch.proofs.Pieces.{piece_is}

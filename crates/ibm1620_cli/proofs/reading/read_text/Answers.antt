@@ -1,5 +1,5 @@
 use Rattle.std.proofs.Common.{refl}
-use Rattle.ibm1620_cli.specs.Parts.{refused, failed, lacking}
+use Rattle.ibm1620_cli.specs.Parts.{refused, host_failed, lacking}
 use Rattle.ibm1620_cli.proofs.Readings.{whole_takes, long_takes, part_loses}
 use Rattle.ibm1620_cli.proofs.reading.read_text.Goals as goal
 
@@ -13,7 +13,7 @@ returns-in-Err-TooLong g c =
 pub returns-in-Err-Failed : goal.returns-in-Err-Failed
 returns-in-Err-Failed g c =
     let part = rw c.in-Err-Failed.field-0-is at c.in-Err-Failed.ensures in
-    failed (part_loses c.args.unit (g.H.Host.seen c.args.host.now) (g.H.Host.seen c.read_all.new.host) 0 c.args.longest part.0) refl part.1
+    host_failed (part_loses c.args.unit (g.H.Host.seen c.args.host.now) (g.H.Host.seen c.read_all.new.host) 0 c.args.longest part.0) refl part.1
 
 pub returns-in-Err-Memory : goal.returns-in-Err-Memory
 returns-in-Err-Memory g c =

@@ -38,7 +38,7 @@ returns-in-Ok-write_source-clause-stays g c =
     let ran = (g.H.Host.seen c.run_program-ran.new.host).world in
     let new = (g.H.Host.seen c.report_trial-status.new.host).world in
     stays_on reads_feed old ran new (stays_again old written ran (stays_none reads_feed old written c.in-Ok-write_source.ensures.stays) c.run_program-ran.ensures.stays)
-    (trial_stays (steps_of c.run_program-ran.result.status) c.args.settings.statements c.args.settings.number c.len-count.result (g.H.Host.seen c.run_program-ran.new.host) (g.H.Host.seen c.report_trial-status.new.host) c.run_program-ran.result.status c.report_trial-status.result c.report_trial-status.ensures)
+    (trial_stays (steps_of c.run_program-ran.result.status) c.args.settings c.len-count.result (g.H.Host.seen c.run_program-ran.new.host) (g.H.Host.seen c.report_trial-status.new.host) c.run_program-ran.result.status c.report_trial-status.result c.report_trial-status.ensures)
 
 pub returns-in-Err-write_source-clause-promise : goal.returns-in-Err-write_source-clause-promise
 returns-in-Err-write_source-clause-promise g c =

@@ -5,7 +5,7 @@ use Rattle.cpu_step.specs.declared.machine.Outcome.TheVariants as outcome
 use Rattle.cpu_step.specs.declared.rows.Row.TheVariants as row
 use Rattle.field_moves.specs.Move.{move_of}
 use Rattle.feature_ops.specs.Feature.{feature_of}
-use Rattle.cpu_step.specs.Act.{Goes, Halts, regs_on, action}
+use Rattle.cpu_step.specs.Act.{Continues, Halts, regs_on, action}
 use Rattle.traces.specs.Trace.{ends}
 use Rattle.cpu_step.specs.State.{State}
 use Rattle.cpu_step.proofs.ShownStates.{did_nothing, did_as}
@@ -57,7 +57,7 @@ unfolding action
 returns-in-Nop g c = λ old running acts.
     c.settle-in-Nop.ensures old (g.H.Host.seen c.args.host.now) (g.H.Host.seen c.args.host.now) running (acts c.args.self.now (outcome.Goes c.next-regs.result)
     (rw (c.in-Nop.is, c.next-regs.ensures)
-    (did_as g.row.M _ (action row.Nop c.args.o) _ _ _ _ (λ s shown. ap (λ (x : State). ends (Ok (Goes (regs_on x)))) shown.is) _ (did_nothing g.row.M c.args.self.now _ (Ok (Goes _))))))
+    (did_as g.row.M _ (action row.Nop c.args.o) _ _ _ _ (λ s shown. ap (λ (x : State). ends (Ok (Continues (regs_on x)))) shown.is) _ (did_nothing g.row.M c.args.self.now _ (Ok (Continues _))))))
 
 pub returns-in-H : goal.returns-in-H
 unfolding action

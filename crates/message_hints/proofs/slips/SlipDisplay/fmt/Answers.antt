@@ -1,4 +1,4 @@
-use Rattle.std.proofs.Common.{append_assoc, subst, sym}
+use Rattle.std.proofs.Common.{append_assoc}
 use Rattle.std.proofs.Output.{has_written_of_eq}
 use Rattle.message_hints.proofs.slips.SlipDisplay.fmt.Goals as goal
 
