@@ -10,7 +10,7 @@ use Rattle.card_code.specs.declared.lines.More.{More}
 use Rattle.card_code.specs.declared.lines.More.TheVariants as more
 use Rattle.card_code.specs.Entries.{Entry}
 use Rattle.card_code.specs.Reader as lines
-use Rattle.card_code.specs.Reader.{unit_of, bytes_held, AsksInTurn, AsksOneAhead, Fronts, HasNone}
+use Rattle.card_code.specs.Reader.{unit_of, bytes_held, AsksInTurn, AsksOneAhead, HasNone}
 use Rattle.card_code.proofs.InTurn.{is_ahead}
 use Rattle.card_unit.specs.declared.front.Front.{Front}
 use Rattle.card_unit.specs.declared.pile.Pile.{Pile}

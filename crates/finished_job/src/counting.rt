@@ -9,8 +9,8 @@ ghost use Rattle.finished_job.specs.Lost.{cards_in_bytes, lost_bytes};
 use crate::finishing::Finishes;
 use outside_io::{Bound, Drive, Host, Put, SECTOR_LENGTH, Sent, Take, Trouble, Unit};
 
-/// How many bytes a card is punched as: those of its 80 columns, and a line feed.
-pub const CARD_BYTES: u64 = 81;
+// How many bytes a card is punched as: those of its 80 columns, and a line feed.
+const CARD_BYTES: u64 = 81;
 
 /// A host that counts the cards that are punched on it while no file is bound to Punched.
 ///

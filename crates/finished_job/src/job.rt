@@ -15,15 +15,15 @@ use outside_io::Sent;
 use std::alloc::Global;
 use std::fmt::InlineText;
 
-/// How many bytes a message has at most that is said without memory for its text.
-pub const MESSAGE_ROOM: usize = 16_384;
+// How many bytes a message has at most that is said without memory for its text.
+const MESSAGE_ROOM: usize = 16_384;
 
 /// Does what the words say over a host, finishes its files, says on `errors` what there is to say of it, and answers the code that the program
 /// ends with.
 ///
 /// The job is that of `ibm1620_answer`. Its files are finished unless the host failed, memory was lacking, or the words are not plain; a file
 /// that can't be finished is a fault of the host. The code is that of the status then. A message is said as one piece, so that its lines stay
-/// together: the whole text, or, where there is no memory for it, as much of it as `MESSAGE_ROOM` bytes hold. It is that of this status, of the
+/// together: the whole text, or, where there is no memory for it, as much of it as 16,384 bytes hold. It is that of this status, of the
 /// answer's console, statement and refusal, of these words, and of the cards that were punched to no file. Where it is empty nothing is said.
 ///
 /// No unit of the host is in use, and no output has been given a byte.

@@ -11,4 +11,3 @@ mod units;
 pub use endings::{check_line, halt_line, jam_line, limit_line, need_cards_line, need_keys_line};
 pub use lines::{counted_line, steps_line, text_line, unit_line};
 pub use numbers::{LONGEST_LINE, push_at_steps, push_count, push_long, push_number, push_padded};
-pub use units::push_unit;

@@ -1,4 +1,5 @@
 // The names of units in lines.
+// Source: this project's own.
 ghost use Rattle.std.specs.Prelude.{◌≡◌, ◌≤◌, ◌+◌, ◌++◌};
 ghost use Rattle.arrayvec.specs.ArrayString.{array_string_len};
 ghost use Rattle.report_lines.specs.Units.{unit_name};
@@ -8,11 +9,8 @@ use crate::numbers::LONGEST_LINE;
 use arrayvec::ArrayString;
 use outside_io::Unit;
 
-/// Adds the name of a unit: its word in capitals.
-///
-/// The line has room for eight bytes more. At most eight bytes are added.
-/// Source: this project's own.
-pub fn push_unit(line: &mut ArrayString<LONGEST_LINE>, unit: Unit)
+// Adds the name of a unit: its word in capitals. The line has room for eight bytes more, and at most eight are added.
+pub(crate) fn push_unit(line: &mut ArrayString<LONGEST_LINE>, unit: Unit)
     requires { array_string_len line.old + 8 ≤ LONGEST_LINE }
     ensures bytes { line.new.bytes ≡ line.old.bytes ++ unit_name unit }
     ensures len { array_string_len line.new ≤ array_string_len line.old + 8 }
