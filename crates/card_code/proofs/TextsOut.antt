@@ -1,5 +1,6 @@
 -- Texts of pairs as they go out.
-use Rattle.std.proofs.Common.{◌≡◌, ℕ, List, [], ◌∷◌, ◌++◌, refl, sym, ◌∙◌, ap, subst}
+use Rattle.std.proofs.Common.{◌≡◌, ℕ, List, [], ◌∷◌, ◌++◌, length, map, take, refl, sym, ◌∙◌, ap, subst, append_assoc}
+use Rattle.std.proofs.Math.Seq.{take-append_seam}
 use Rattle.std.specs.Prelude.{Option, Some, None}
 use Rattle.indicators.specs.declared.Panel.{Panel}
 use Rattle.indicators.specs.Panel.{set}
@@ -21,6 +22,20 @@ pub lamps_of-append : (es fs : List Output) → lamps_of (es ++ fs) ≡ lamps_of
 lamps_of-append [] fs = refl
 lamps_of-append (WritesByte b ∷ es) fs = lamps_of-append es fs
 lamps_of-append (Warns l ∷ es) fs = ap (λ (x : List Lamp). l ∷ x) (lamps_of-append es fs)
+
+-- the first part of a text is a first part of what goes out
+pub part_of : {A : Type 0} (written rest whole more : List A) → written ++ rest ≡ whole → take (length written) (whole ++ more) ≡ written
+part_of {A} written rest whole more parts =
+    ap (λ (x : List A). take (length written) (x ++ more)) (sym parts) ∙ ap (λ (x : List A). take (length written) x) (append_assoc written rest more) ∙ take-append_seam written (rest ++ more)
+
+-- bytes alone, as effects
+pub writes_bytes : (bytes : List ℕ) → bytes_out (map WritesByte bytes) ≡ bytes
+writes_bytes [] = refl
+writes_bytes (b ∷ bytes) = ap (λ (x : List ℕ). b ∷ x) (writes_bytes bytes)
+
+pub writes_no_lamp : (bytes : List ℕ) → lamps_of (map WritesByte bytes) ≡ []
+writes_no_lamp [] = refl
+writes_no_lamp (b ∷ bytes) = writes_no_lamp bytes
 
 -- the panel after two lists of changes
 pub panel_after-append : (panel : Panel) (ks ls : List Lamp) → panel_after panel (ks ++ ls) ≡ panel_after (panel_after panel ks) ls

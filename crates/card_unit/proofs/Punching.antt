@@ -1,7 +1,7 @@
 -- Cards as they go out.
-use Rattle.std.proofs.Common.{◌≡◌, ℕ, ◌+◌, List, [], ◌∷◌, ◌++◌, length, map, take, Ok, Err, refl, sym, ◌∙◌, ap, subst, arith, append_assoc}
+use Rattle.std.proofs.Common.{◌≡◌, ℕ, ◌+◌, List, [], ◌∷◌, ◌++◌, length, map, take, Ok, Err, refl, sym, ◌∙◌, ap, subst, arith}
 use Rattle.std.proofs.lemmas.List.{append-nil, take-map}
-use Rattle.std.proofs.Math.Seq.{take-append_seam, take-append-add}
+use Rattle.std.proofs.Math.Seq.{take-append-add}
 use Rattle.std.specs.Prelude.{Result, ⊤}
 use Rattle.indicators.specs.declared.Panel.{Panel}
 use Rattle.indicators.specs.Lamps.{Lamp, panel_after}
@@ -13,7 +13,7 @@ use Rattle.addr_indirect.specs.declared.Stop.{Stop}
 use Rattle.traces.specs.Trace.{Trace, ends, after_answer, lift}
 use Rattle.card_code.specs.TextOut.{Output, WritesByte, bytes_out, lamps_of}
 use Rattle.card_code.specs.Written.{Wrote, WroteFirst, CarriedOut, WrotePairs, WroteFirstPairs}
-use Rattle.card_code.proofs.TextsOut.{bytes_of-append, lamps_of-append}
+use Rattle.card_code.proofs.TextsOut.{bytes_of-append, lamps_of-append, part_of, writes_bytes, writes_no_lamp}
 use Rattle.card_unit.specs.declared.reader.CardIo.{CardIo}
 use Rattle.card_unit.specs.declared.reader.CardIo.TheVariants as io
 use Rattle.card_unit.specs.Punch.{punch_card}
@@ -42,11 +42,6 @@ card_sent text t now mid after io.Failed sent rest = record {
   rose = omega (arith, sent.later, rest.rose);
 }
 
--- the first part of a card's line is a first part of what goes out
-part_of : (written rest whole more : List ℕ) → written ++ rest ≡ whole → take (length written) (whole ++ more) ≡ written
-part_of written rest whole more parts =
-    ap (λ (x : List ℕ). take (length written) (x ++ more)) (sym parts) ∙ ap (λ (x : List ℕ). take (length written) x) (append_assoc written rest more) ∙ take-append_seam written (rest ++ more)
-
 -- the host failed within a card
 pub card_broken : (text : List ℕ) (t : Trace ℕ ⊤ Stop) (now after : Seen) → Stops now after units.Punched (line text) → WroteFirst units.Punched (punch_card text t) now after
 card_broken text t now after stops = record {
@@ -54,15 +49,6 @@ card_broken text t now after stops = record {
   goes = subst (λ (bytes : List ℕ). Goes now after (world_after_put units.Punched bytes now.world)) (sym (part_of stops.written stops.rest (line text) t.effects stops.parts)) stops.goes;
   rose = stops.rose;
 }
-
--- bytes alone, as effects
-writes_bytes : (bytes : List ℕ) → bytes_out (map WritesByte bytes) ≡ bytes
-writes_bytes [] = refl
-writes_bytes (b ∷ bytes) = ap (λ (x : List ℕ). b ∷ x) (writes_bytes bytes)
-
-writes_no_lamp : (bytes : List ℕ) → lamps_of (map WritesByte bytes) ≡ []
-writes_no_lamp [] = refl
-writes_no_lamp (b ∷ bytes) = writes_no_lamp bytes
 
 take_writes : (n : ℕ) (bytes : List ℕ) → take n (map WritesByte bytes) ≡ map WritesByte (take n bytes)
 take_writes n bytes = take-map WritesByte n bytes

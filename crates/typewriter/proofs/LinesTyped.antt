@@ -1,7 +1,7 @@
 -- What waits in a line, and then the rest, is typed.
-use Rattle.std.proofs.Common.{ℕ, suc, ◌≡◌, ◌+◌, List, [], ◌∷◌, ◌++◌, length, map, take, Some, None, refl, sym, ◌∙◌, ap, subst, arith, append_assoc}
+use Rattle.std.proofs.Common.{ℕ, suc, ◌≡◌, ◌+◌, List, [], ◌∷◌, ◌++◌, length, map, take, Some, None, sym, ◌∙◌, ap, subst, arith, append_assoc}
 use Rattle.std.proofs.lemmas.List.{map-append, take-map}
-use Rattle.std.proofs.Math.Seq.{take-append_seam, take-append-add}
+use Rattle.std.proofs.Math.Seq.{take-append-add}
 use Rattle.std.specs.Prelude.{⊤, Result, Option}
 use Rattle.indicators.specs.declared.Panel.{Panel}
 use Rattle.indicators.specs.Lamps.{Lamp, panel_after}
@@ -12,9 +12,9 @@ use Rattle.outside_io.specs.Whole.{Stops}
 use Rattle.outside_io.proofs.Worlds.{adds_on}
 use Rattle.addr_indirect.specs.declared.Stop.{Stop}
 use Rattle.traces.specs.Trace.{Trace, ends, does, does_all}
-use Rattle.card_code.specs.TextOut.{Output, WritesByte, bytes_out, lamps_of, panel_after_pair}
+use Rattle.card_code.specs.TextOut.{Output, WritesByte, panel_after_pair}
 use Rattle.card_code.specs.Written.{CarriedOut}
-use Rattle.card_code.proofs.TextsOut.{put_on}
+use Rattle.card_code.proofs.TextsOut.{put_on, part_of, writes_bytes, writes_no_lamp}
 use Rattle.typewriter.specs.declared.typing.TypeIo.{TypeIo}
 use Rattle.typewriter.specs.declared.typing.TypeIo.TheVariants as io
 use Rattle.typewriter.specs.Typing.{Types, TypesPairs}
@@ -45,11 +45,6 @@ some_more old cs new t now mid after answer more rest =
     sym (append_assoc more.gone new t.effects) ∙ ap (λ (x : List ℕ). x ++ t.effects) more.parts ∙ append_assoc old cs t.effects in
     subst (λ (x : List ℕ). Types (record { effects = x; answer = t.answer }) now after answer) same (gone_first more.gone (does_all new t) now mid after answer more.goes rest)
 
--- the first part of a line is a first part of what is typed
-part_of : {A : Type 0} (written rest whole more : List A) → written ++ rest ≡ whole → take (length written) (whole ++ more) ≡ written
-part_of {A} written rest whole more parts =
-    ap (λ (x : List A). take (length written) (x ++ more)) (sym parts) ∙ ap (λ (x : List A). take (length written) x) (append_assoc written rest more) ∙ take-append_seam written (rest ++ more)
-
 -- the host failed within the line
 pub line_failed : (line : List ℕ) (t : Trace ℕ ⊤ Stop) (now after : Seen) → Stops now after units.Typed line → Types (does_all line t) now after io.Failed
 line_failed line t now after stops = record {
@@ -57,15 +52,6 @@ line_failed line t now after stops = record {
   goes = subst (λ (bytes : List ℕ). Goes now after (world_after_put units.Typed bytes now.world)) (sym (part_of stops.written stops.rest line t.effects stops.parts)) stops.goes;
   rose = stops.rose;
 }
-
--- bytes alone, as effects
-writes_bytes : (bytes : List ℕ) → bytes_out (map WritesByte bytes) ≡ bytes
-writes_bytes [] = refl
-writes_bytes (b ∷ bytes) = ap (λ (x : List ℕ). b ∷ x) (writes_bytes bytes)
-
-writes_no_lamp : (bytes : List ℕ) → lamps_of (map WritesByte bytes) ≡ []
-writes_no_lamp [] = refl
-writes_no_lamp (b ∷ bytes) = writes_no_lamp bytes
 
 put_bytes : (bytes : List ℕ) (panel : Panel) (now after : Seen) → Goes now after (world_after_put units.Typed bytes now.world) → CarriedOut units.Typed (map WritesByte bytes) panel now panel after
 put_bytes bytes panel now after goes = record {
