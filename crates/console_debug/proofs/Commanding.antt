@@ -6,6 +6,7 @@ use Rattle.outside_io.specs.declared.whole.Sent.{Sent}
 use Rattle.outside_io.specs.declared.whole.Sent.TheVariants as sent
 use Rattle.outside_io.specs.World.{Seen}
 use Rattle.outside_io.specs.Whole.{Sends}
+use Rattle.cpu_step.proofs.ShownStates.{frames_same}
 use Rattle.sps_pass_two.specs.Assembled.{PlacedText}
 use Rattle.console_debug.specs.declared.commands.DebugCommand.{DebugCommand}
 use Rattle.console_debug.specs.declared.commands.DebugCommand.TheVariants as command
@@ -14,7 +15,7 @@ use Rattle.console_debug.specs.Places.{is_instruction_at}
 use Rattle.console_debug.specs.Session.{Course, Session, says, go, steps, back, set_break, clear_break, with_break, without_break, session_after}
 use Rattle.console_debug.specs.CursorStates.{CursorState, IsFit}
 use Rattle.console_debug.specs.Carries.{DebuggerState, debugger_state, Does, CarriesPart, marks, SetsIf, Sets}
-use Rattle.console_debug.proofs.DebuggerStates.{attends_same, begins, all_done, core_here, said, carried_same}
+use Rattle.console_debug.proofs.DebuggerStates.{begins, all_done, core_here, said, carried_same}
 
 module _ (m limit : ℕ) (placed : List PlacedText) where
   -- said of a command that is this one
@@ -60,7 +61,7 @@ module _ (m limit : ℕ) (placed : List PlacedText) where
     set_does n old change = record {
       told = λ c over start s stands. record { on_it = stands.on_it; breaks_are = ap change stands.breaks_are; turns = stands.turns; did = stands.did; cards = stands.cards; lines = stands.lines };
       fit = fit;
-      frames = attends_same m x.at.machine x.seen;
+      frames = frames_same m x.at.machine x.at.machine x.seen refl refl;
     }
 
     set_carried : (b : Bool) (n : ℕ) (old new : List ℕ) (change : List ℕ → List ℕ) → SetsIf b n change (marks old x.seen) (marks new after) how

@@ -9,7 +9,7 @@ use Rattle.outside_io.specs.World.{World, Seen, Rose, Goes, world_after_put, sam
 use Rattle.outside_io.specs.Whole.{Sends}
 use Rattle.outside_io.specs.Frame.{Keeps}
 use Rattle.outside_io.specs.Events.{text_events}
-use Rattle.outside_io.proofs.Frames.{keeps_all, keeps_on, keeps_added}
+use Rattle.outside_io.proofs.Frames.{keeps_added}
 use Rattle.outside_io.proofs.EventLemmas.{did_on, did_text, first_text}
 use Rattle.card_unit.specs.Hopper.{hopper_left}
 use Rattle.card_unit.proofs.ReadSame.{read_same}
@@ -19,7 +19,8 @@ use Rattle.cpu_step.specs.declared.machine.Machine.{Machine}
 use Rattle.cpu_step.specs.State.{State}
 use Rattle.cpu_step.specs.Machine.{Frames, is_read, is_written, state_with, over_all}
 use Rattle.cpu_step.proofs.Readers.{hopper_same}
-use Rattle.cpu_step.proofs.ExactCards.{state_is}
+use Rattle.cpu_step.proofs.ShownStates.{frames_same}
+use Rattle.cpu_step.proofs.ExactCards.{state_is, frames_both}
 use Rattle.cpu_step.proofs.Texts.{texts_other}
 use Rattle.cpu_step.proofs.InputsTaken.{HasTaken, taken_on}
 use Rattle.operator_script.specs.Turn.{RunPlace, IsCutTurn}
@@ -35,21 +36,6 @@ use Rattle.console_debug.proofs.Acts.{turns_append, turns_line, turns_of, turns_
 use Rattle.console_debug.proofs.Onward.{Onward, MakesTurns, next_turn}
 
 -- What stays.
-
-pub attends_same : (m : ℕ) (machine : Machine m) (seen : Seen) → Attends m machine machine seen seen
-attends_same m machine seen = record { later = omega arith; keeps = keeps_all is_read is_said true seen.world; told = refl; told_keys = refl; told_sectors = refl; own = refl; cards = λ start read. read; lines = λ start read. read }
-
-pub attends_both : (m : ℕ) (old mid new : Machine m) (before between after : Seen) → Attends m old mid before between → Attends m mid new between after → Attends m old new before after
-attends_both m old mid new before between after first second = record {
-  later = omega (arith, first.later, second.later);
-  keeps = keeps_on is_read is_said true before.world between.world after.world first.keeps second.keeps;
-  told = second.told ∙ first.told;
-  told_keys = second.told_keys ∙ first.told_keys;
-  told_sectors = second.told_sectors ∙ first.told_sectors;
-  own = second.own ∙ first.own;
-  cards = λ start read. second.cards start (first.cards start read);
-  lines = λ start read. second.lines start (first.lines start read);
-}
 
 none_of : (a b : Bool) → (a || b) ≡ false → a ≡ false
 none_of false b neither = refl
@@ -218,7 +204,7 @@ module _ (m limit : ℕ) (placed : List PlacedText) where
   begins f g x same fit = record {
     told = λ c over start s stands. (s, stands, same c s);
     fit = fit;
-    frames = attends_same m x.cursor_state.at.machine x.cursor_state.seen;
+    frames = frames_same m x.cursor_state.at.machine x.cursor_state.at.machine x.cursor_state.seen refl refl;
   }
 
   pub goes_on : (f g h : Course → Session → Session) (a b d : DebuggerState m) → PartsUnderway m limit placed f g a b → PartsUnderway m limit placed g h b d → PartsUnderway m limit placed f h a d
@@ -228,7 +214,7 @@ module _ (m limit : ℕ) (placed : List PlacedText) where
         let two = second.told c over start one.0 one.1 in
         (two.0, two.1, one.2 ∙ two.2);
     fit = second.fit;
-    frames = attends_both m a.cursor_state.at.machine b.cursor_state.at.machine d.cursor_state.at.machine a.cursor_state.seen b.cursor_state.seen d.cursor_state.seen first.frames second.frames;
+    frames = frames_both m a.cursor_state.at.machine b.cursor_state.at.machine d.cursor_state.at.machine a.cursor_state.seen b.cursor_state.seen d.cursor_state.seen first.frames second.frames;
   }
 
   -- a whole part is done, and another is left
@@ -246,14 +232,14 @@ module _ (m limit : ℕ) (placed : List PlacedText) where
         let left = under.told c over start s stands in
         subst (StandsIn m c d start) (sym left.2) (does.told c over start left.0 left.1);
     fit = does.fit;
-    frames = attends_both m a.cursor_state.at.machine b.cursor_state.at.machine d.cursor_state.at.machine a.cursor_state.seen b.cursor_state.seen d.cursor_state.seen under.frames does.frames;
+    frames = frames_both m a.cursor_state.at.machine b.cursor_state.at.machine d.cursor_state.at.machine a.cursor_state.seen b.cursor_state.seen d.cursor_state.seen under.frames does.frames;
   }
   ends_with f g a b d sent.Failed under fails = record {
     told = λ c over start s stands.
         let left = under.told c over start s stands in
         subst (StopsIn m c d start) (sym left.2) (fails.told c over start left.0 left.1);
     rose = omega (arith, under.frames.later, fails.rose);
-    frames = attends_both m a.cursor_state.at.machine b.cursor_state.at.machine d.cursor_state.at.machine a.cursor_state.seen b.cursor_state.seen d.cursor_state.seen under.frames fails.frames;
+    frames = frames_both m a.cursor_state.at.machine b.cursor_state.at.machine d.cursor_state.at.machine a.cursor_state.seen b.cursor_state.seen d.cursor_state.seen under.frames fails.frames;
   }
 
   -- a function that gives the same over each of these courses

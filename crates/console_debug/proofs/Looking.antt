@@ -1,13 +1,14 @@
 -- A machine of which only the memory of decoded instructions has changed stands where it stood.
 use Rattle.std.proofs.Common.{◌≡◌, ◌∙◌, ℕ, suc, ◌≤◌, Bool, true, false, List, refl, sym, ap, subst}
 use Rattle.std.specs.Prelude.{Option, Some, None, IfSome, is_some}
+use Rattle.outside_io.specs.declared.host.Unit as unit
 use Rattle.outside_io.specs.World.{Seen}
 use Rattle.card_unit.specs.Hopper.{hopper_left, own_cards, HasReadCards}
 use Rattle.typewriter.specs.Keys.{keys_left}
 use Rattle.typewriter.specs.Keys as keyboard
 use Rattle.cpu_step.specs.declared.machine.Machine.{Machine}
 use Rattle.cpu_step.specs.declared.stores.Stores.{Stores}
-use Rattle.cpu_step.specs.Machine.{is_faulted, Frames, Makes}
+use Rattle.cpu_step.specs.Machine.{is_faulted, Frames, FramesBut, Makes}
 use Rattle.cpu_step.specs.Step.{step}
 use Rattle.cpu_step.specs.Stores.{ShowsTheSame, StepStores, StoresWithin}
 use Rattle.cpu_step.proofs.StoredWords.{step_stored}
@@ -21,7 +22,6 @@ use Rattle.operator_script.proofs.ByEnding.{by_ending}
 use Rattle.operator_script.proofs.Running.{Underway, turns_left, starts, acted_on, stepped_on}
 use Rattle.console_debug.specs.Session.{Course}
 use Rattle.console_debug.specs.CursorStates.{CursorState, cursor_state_at, with_machine, IsOn, IsFit, MovesOn, StaysOn, BreaksOn, Advances}
-use Rattle.console_debug.specs.Debugs.{Attends}
 use Rattle.console_debug.proofs.Courses.{led_by}
 use Rattle.console_debug.proofs.Stepping.{made_on_it}
 
@@ -47,7 +47,7 @@ module _ (m : ℕ) (x : CursorState m) (machine : Machine m) (same : ShowsTheSam
     core = λ at_tip. subst (λ (y : Machine m). IfSome (newest x.kept) (λ (k : Kept). k.core ≡ y.core)) (sym same) (fit.core at_tip);
   }
 
-  looked_to : (first : Machine m) (before : Seen) → Frames m first x.at.machine before x.seen → Frames m first machine before x.seen
+  looked_to : {may_write : unit.Unit → Bool} (first : Machine m) (before : Seen) → FramesBut may_write m first x.at.machine before x.seen → FramesBut may_write m first machine before x.seen
   looked_to first before frames = record {
     later = frames.later;
     keeps = frames.keeps;
@@ -71,18 +71,6 @@ module _ (m : ℕ) (x : CursorState m) (machine : Machine m) (same : ShowsTheSam
     lines = λ start read. frames.lines start (subst (λ (y : Machine m). keyboard.HasReadLines start y.keys x.seen.world) (sym same) read);
   }
 
-  looked_attends : (first : Machine m) (before : Seen) → Attends m first x.at.machine before x.seen → Attends m first machine before x.seen
-  looked_attends first before attends = record {
-    later = attends.later;
-    keeps = attends.keeps;
-    told = ap (λ (y : Machine m). is_some (hopper_left y.hopper x.seen.world)) same ∙ attends.told;
-    told_keys = ap (λ (y : Machine m). is_some (keys_left y.keys x.seen.world)) same ∙ attends.told_keys;
-    told_sectors = attends.told_sectors;
-    own = ap (λ (y : Machine m). own_cards y.hopper) same ∙ attends.own;
-    cards = λ start read. subst (λ (y : Machine m). HasReadCards start y.hopper x.seen.world) (sym same) (attends.cards start read);
-    lines = λ start read. subst (λ (y : Machine m). keyboard.HasReadLines start y.keys x.seen.world) (sym same) (attends.lines start read);
-  }
-
 -- Where the run is over.
 
 module _ (m limit : ℕ) (how : Ending) (old new : CursorState m) (stays : StaysOn m limit how old new) where
@@ -95,11 +83,8 @@ module _ (m limit : ℕ) (how : Ending) (old new : CursorState m) (stays : Stays
   seen_is : new.seen ≡ old.seen
   seen_is = ap (λ (x : CursorState m). x.seen) stays.same
 
-  pub stays_frames : (first : Machine m) (before : Seen) → Frames m first old.at.machine before old.seen → Frames m first new.at.machine before new.seen
-  stays_frames first before frames = subst (Frames m first new.at.machine before) (sym seen_is) (looked_to m old new.at.machine stays.shows first before frames)
-
-  pub stays_attends : (first : Machine m) (before : Seen) → Attends m first old.at.machine before old.seen → Attends m first new.at.machine before new.seen
-  stays_attends first before attends = subst (Attends m first new.at.machine before) (sym seen_is) (looked_attends m old new.at.machine stays.shows first before attends)
+  pub stays_frames : {may_write : unit.Unit → Bool} (first : Machine m) (before : Seen) → FramesBut may_write m first old.at.machine before old.seen → FramesBut may_write m first new.at.machine before new.seen
+  stays_frames {may_write} first before frames = subst (FramesBut may_write m first new.at.machine before) (sym seen_is) (looked_to m old new.at.machine stays.shows first before frames)
 
 -- What a move does that begins with a look.
 

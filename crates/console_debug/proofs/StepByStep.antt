@@ -17,7 +17,7 @@ use Rattle.console_debug.specs.Places.{turns_to_step}
 use Rattle.console_debug.specs.Session.{Course, Session, nth_place, places_ahead, goes_to, steps}
 use Rattle.console_debug.specs.CursorStates.{CursorState, IsOn, IsFit, MovesOn, StaysOn, BreaksOn, Advances, IsStepAhead, ToAStep, ToTheEnd, BreaksOnTheWay}
 use Rattle.console_debug.specs.Carries.{DebuggerState, debugger_state, Does, FailsInPart, CarriesPart, step_on, PartsUnderway}
-use Rattle.console_debug.proofs.Looking.{stays_fit, stays_attends}
+use Rattle.console_debug.proofs.Looking.{stays_fit, stays_frames}
 use Rattle.console_debug.proofs.Onward.{MakesTurns, step_by, steps_by, steps_onward, goes_onward, goes_makes, step_makes}
 use Rattle.console_debug.proofs.DebuggerStates.{still_on, fails_first, goes_on, does_first, ends_with, all_done, moved, broke, broken_at}
 use Rattle.console_debug.proofs.PlaceLines.{says_at, says_end, at_said, end_said}
@@ -83,7 +83,7 @@ module _ (m limit : ℕ) (placed : List PlacedText) (x : CursorState m) (set : L
             (stays.told c s.at s.furthest over.limit_is (still_on m limit placed x set after (at_line x.at.machine.regs.ir x.at.steps) sends c s.at s.furthest stands.on_it))
             (next c s.at s.furthest over.limit_is stands.on_it);
         fit = stays_fit m limit how behind_line new stays said.fit;
-        frames = stays_attends m limit how behind_line new stays x.at.machine x.seen said.frames;
+        frames = stays_frames m limit how behind_line new stays x.at.machine x.seen said.frames;
       }
 
   pub step_over : (new : CursorState m) (how : Ending) → (how ≡ ending.Failed → ⊥) → IsStepAhead m limit x true → Sends x.seen after units.Report (at_line x.at.machine.regs.ir x.at.steps) sent.Done

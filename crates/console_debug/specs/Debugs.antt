@@ -1,16 +1,12 @@
 -- What a session does to a machine, its script, its breakpoints and its host.
-use Rattle.std.specs.Prelude.{ℕ, ◌≡◌, ◌≤◌, Bool, true, false, ◌||◌, All, List, ◌∷◌, ◌++◌, drop, Some, is_some, IfSome}
+use Rattle.std.specs.Prelude.{ℕ, ◌≡◌, Bool, false, ◌||◌, All, List, ◌∷◌, ◌++◌, drop, Some, IfSome}
 use Rattle.digit_core.specs.Size.{size}
 use Rattle.outside_io.specs.declared.host.Unit as unit
 use Rattle.outside_io.specs.declared.host.Unit.TheVariants as units
 use Rattle.outside_io.specs.World.{World, Seen, Rose, same_unit}
-use Rattle.outside_io.specs.Frame.{Keeps}
 use Rattle.outside_io.specs.Events.{Event, cards_in, lines_in, IsFirstPart, DidAll}
-use Rattle.card_unit.specs.Hopper.{hopper_left, own_cards, GoesOnReadingCards}
-use Rattle.typewriter.specs.Keys.{keys_left}
-use Rattle.typewriter.specs.Keys as keyboard
 use Rattle.cpu_step.specs.declared.machine.Machine.{Machine}
-use Rattle.cpu_step.specs.Machine.{is_faulted, is_read, is_written}
+use Rattle.cpu_step.specs.Machine.{is_faulted, is_written, FramesBut}
 use Rattle.operator_script.specs.declared.script.Script.{Script}
 use Rattle.operator_script.specs.Scripts.{IsLine, lines_left}
 use Rattle.operator_script.specs.Turn.{RunPlace, IsCutTurn}
@@ -25,17 +21,9 @@ use Rattle.console_debug.specs.Session.{Course, Act, PrintsLine, MakesTurn, Sess
 abbrev pub is_said : unit.Unit → Bool
 is_said u = is_written u || same_unit units.Report u
 
--- faults don't fall, what is told stays told, sectors may have been written, and all else of the world stays; no card was put into the
--- reader's pile; and hopper and keyboard go on with what they have read
-pub record Attends (m : ℕ) (old new : Machine m) (before after : Seen) : Type 0 where
-  pub later : before.faults ≤ after.faults
-  pub keeps : Keeps is_read is_said true before.world after.world
-  pub told : is_some (hopper_left new.hopper after.world) ≡ is_some (hopper_left old.hopper before.world)
-  pub told_keys : is_some (keys_left new.keys after.world) ≡ is_some (keys_left old.keys before.world)
-  pub told_sectors : is_some after.world.sectors ≡ is_some before.world.sectors
-  pub own : own_cards new.hopper ≡ own_cards old.hopper
-  pub cards : GoesOnReadingCards old.hopper new.hopper before after
-  pub lines : keyboard.GoesOnReadingLines old.keys new.keys before after
+-- what stays over a session, which prints lines besides
+abbrev pub Attends : (m : ℕ) → Machine m → Machine m → Seen → Seen → Type 0
+Attends m old new before after = FramesBut is_said m old new before after
 
 -- a moment stands where the session does, its breakpoints are set, and all that it does outside was done; the cards and the lines of the
 -- keyboard that are left are those of the first place without the ones that were taken

@@ -3,6 +3,7 @@ use Rattle.std.proofs.Common.{◌≡◌, ℕ, ◌+◌, ◌||◌, Bool, true, fal
 use Rattle.std.specs.Prelude.{Option, Some, None, option_map, is_some, ⊤, Result, Ok, Err}
 use Rattle.digit_core.specs.Cell.{store}
 use Rattle.digit_core.specs.Size.{size}
+use Rattle.indicators.specs.declared.Panel.{Panel}
 use Rattle.indicators.specs.Panel.{set}
 use Rattle.branch_ops.specs.declared.Regs.{Regs}
 use Rattle.branch_ops.specs.Registers.{on_at}
@@ -25,6 +26,7 @@ use Rattle.card_unit.specs.declared.reader.CardIo.TheVariants as io
 use Rattle.card_unit.specs.CardCalls.{ReadsCardBy}
 use Rattle.card_code.specs.Feed.{station, ReadsAll, ReadsNone}
 use Rattle.cpu_step.specs.declared.machine.Machine.{Machine}
+use Rattle.cpu_step.specs.declared.machine.Mode.{Mode}
 use Rattle.cpu_step.specs.State.{State}
 use Rattle.cpu_step.specs.Effects.{of_cards, after}
 use Rattle.cpu_step.specs.Act.{Continues, card_action}
@@ -87,6 +89,29 @@ looked m old new before later keys looks told own cards = record {
   lines = keys_kept old.keys new.keys before later keys (looks.keeps.left units.Keys refl) (looks.keeps.asked units.Keys refl);
 }
 
+-- What a machine shows behind a look at the hopper's units, with these registers and in this mode.
+module _ (m : ℕ) (old new : Machine m) (before later : Seen) (regs_then : Regs) (mode_then : Mode) (regs : new.regs ≡ regs_then) (mode : new.mode ≡ mode_then) (arms : new.arms ≡ old.arms) (keys : new.keys ≡ old.keys) where
+  pub shows_looked : LooksAtHopper before later → (core_then : List ℕ) (panel_then : Panel) (es ks : List Entry) (pack : ℕ → List ℕ) → new.core ≡ core_then → new.panel ≡ panel_then
+      → Tells (hopper_left new.hopper later.world) es → Tells (keys_left old.keys before.world) ks → Tells before.world.sectors pack
+      → Shows m new later.world (record (state_with m old before.world es ks pack) { core = core_then; regs = regs_then; panel = panel_then; mode = mode_then })
+  shows_looked looks core_then panel_then es ks pack core panel hopper lines sectors =
+      let texts = texts_same before.world later.world (λ u. looks.keeps.written u refl) in
+      record {
+        is = λ i. record { core = sym core i; regs = sym regs i; panel = sym panel i; arms = sym arms i; hopper = es; keys = ks; written = sym texts i; sectors = pack; mode = sym mode i };
+        sectors = subst (λ (o : Option (ℕ → List ℕ)). Tells o pack) (sym (looks.keeps.sectors refl)) sectors;
+        hopper = hopper;
+        keys = keys_told old.keys new.keys before later keys looks ks lines;
+      }
+
+  -- where the host failed before a card was taken
+  pub shows_none : (panel panel_then : Panel) → panel ≡ panel_then → ReadsNone hopper_feed (station old.core panel old.hopper before) (station new.core new.panel new.hopper later)
+      → Shows m new later.world (record (some_state m old before.world) { regs = regs_then; panel = panel_then; mode = mode_then })
+  shows_none panel panel_then panel_is none =
+      let shown = some_shown m old before.world in
+      let s = some_state m old before.world in
+      shows_looked none.fails.stays.looks old.core panel_then s.hopper s.keys s.sectors none.core_same (none.panel_same ∙ panel_is)
+      (subst (λ (o : Option (List Entry)). Tells o s.hopper) (sym none.fails.stays.left) shown.hopper) shown.keys shown.sectors
+
 -- a reading from core and panel of any state, to those of the new machine
 pub read_state : (m : ℕ) (new : Machine m) (before later : Seen) (t : ℕ → List Entry → Trace Intake ⊤ Break) (s : State) (n : ℕ) → length s.core ≡ n → (rest : List Entry)
     → record { core = new.core; panel = new.panel; left = rest } ≡ desk_after (desk_of s) (t n s.hopper).effects
@@ -104,13 +129,8 @@ module _ (m : ℕ) (old new : Machine m) (before later : Seen) (t : ℕ → List
       let lines = whatever (keys_left old.keys before.world) [] in
       let pack = whatever before.world.sectors (λ a. []) in
       let s : State = state_with m old before.world all.given lines.given pack.given in
-      let texts = texts_same before.world later.world (λ u. all.looks.keeps.written u refl) in
-      let there : Shows m new later.world (record s { core = new.core; panel = new.panel; hopper = all.rest }) = record {
-        is = λ i. record { core = new.core; regs = sym regs i; panel = new.panel; arms = sym arms i; hopper = all.rest; keys = lines.given; written = sym texts i; sectors = pack.given; mode = sym mode i };
-        sectors = subst (λ (o : Option (ℕ → List ℕ)). Tells o pack.given) (sym (all.looks.keeps.sectors refl)) pack.told;
-        hopper = tells_next (hopper_left old.hopper before.world) (hopper_left new.hopper later.world) all.rest all.left;
-        keys = keys_told old.keys new.keys before later keys all.looks lines.given lines.told;
-      } in
+      let there : Shows m new later.world (record s { core = new.core; panel = new.panel; hopper = all.rest }) =
+      shows_looked m old new before later old.regs old.mode regs mode arms keys all.looks new.core new.panel all.rest lines.given pack.given refl refl (tells_next (hopper_left old.hopper before.world) (hopper_left new.hopper later.world) all.rest all.left) lines.told pack.told in
       record {
         state = s;
         shown = record { is = refl; hopper = all.told; keys = lines.told; sectors = pack.told };
@@ -121,26 +141,16 @@ module _ (m : ℕ) (old new : Machine m) (before later : Seen) (t : ℕ → List
 
   -- a card is read, where it did
   pub card_first : ReadsNone hopper_feed (station old.core old.panel old.hopper before) (station new.core new.panel new.hopper later) → DidFirst m (λ s. card_action s t) old new before later
-  card_first none =
-      let looks = none.fails.stays.looks in
-      let texts = texts_same before.world later.world (λ u. looks.keeps.written u refl) in
-      let s : State = some_state m old before.world in
-      let shown = some_shown m old before.world in
-      record {
-        done = 0;
-        makes = record {
-          state = s;
-          shown = shown;
-          made = record {
-            is = λ i. record { core = sym none.core_same i; regs = sym regs i; panel = sym none.panel_same i; arms = sym arms i; hopper = s.hopper; keys = s.keys; written = sym texts i; sectors = s.sectors; mode = sym mode i };
-            sectors = subst (λ (o : Option (ℕ → List ℕ)). Tells o s.sectors) (sym (looks.keeps.sectors refl)) shown.sectors;
-            hopper = subst (λ (o : Option (List Entry)). Tells o s.hopper) (sym none.fails.stays.left) shown.hopper;
-            keys = keys_told old.keys new.keys before later keys looks s.keys shown.keys;
-          };
-          frames = looked m old new before later keys looks (ap is_some none.fails.stays.left) own cards;
-        };
-        rose = none.fails.rose;
-      }
+  card_first none = record {
+    done = 0;
+    makes = record {
+      state = some_state m old before.world;
+      shown = some_shown m old before.world;
+      made = shows_none m old new before later old.regs old.mode regs mode arms keys old.panel old.panel refl none;
+      frames = looked m old new before later keys none.fails.stays.looks (ap is_some none.fails.stays.left) own cards;
+    };
+    rose = none.fails.rose;
+  }
 
   -- an instruction that reads a card
   pub card_acts : (next : Regs) (answer : CardIo) → next ≡ on_at old.regs (old.regs.ir + 12) → length old.core ≡ size m

@@ -1,7 +1,8 @@
 -- What a machine's calls do, where the host tells the cards.
 use Rattle.std.proofs.Common.{◌≡◌, ◌≢◌, ℕ, true, false, ◌&&◌, List, refl, sym, ◌∙◌, ap, arith}
 use Rattle.std.proofs.lemmas.Bool.{true≢false}
-use Rattle.std.specs.Prelude.{Option, Some, None, option_map, is_some}
+use Rattle.std.specs.Prelude.{Bool, Option, Some, None, option_map, is_some}
+use Rattle.outside_io.specs.declared.host.Unit as unit
 use Rattle.outside_io.specs.World.{World, Seen}
 use Rattle.outside_io.specs.Frame.{Tells}
 use Rattle.outside_io.proofs.Frames.{keeps_on}
@@ -16,7 +17,7 @@ use Rattle.cpu_step.specs.declared.machine.Turned.TheVariants as turned
 use Rattle.cpu_step.specs.State.{State}
 use Rattle.cpu_step.specs.Step.{step}
 use Rattle.cpu_step.specs.Load.{load_key}
-use Rattle.cpu_step.specs.Machine.{state_with, over_both, over_all, state_of, Shows, Frames, Makes, ChangesState, Steps, LoadsKey, turned_to, is_faulted, is_read, is_written}
+use Rattle.cpu_step.specs.Machine.{state_with, over_both, over_all, state_of, Shows, Frames, FramesBut, Makes, ChangesState, Steps, LoadsKey, turned_to, is_faulted, is_read}
 
 follows : {S : Type 0} (o p : Option S) (s : S) (f : S → S) → Tells o s → Tells p (f s) → is_some p ≡ is_some o → p ≡ option_map f o
 follows None None s f to tp same = refl
@@ -84,10 +85,10 @@ pub state_pack : (m : ℕ) (machine : Machine m) (w : World) (s : State) → sta
 state_pack m machine w s is = pack_with (state_with m machine w) (λ es ks pack. refl) (hopper_left machine.hopper w) (keys_left machine.keys w) w.sectors s is
 
 -- what stays over one call and then another
-pub frames_both : (m : ℕ) (old mid new : Machine m) (before between later : Seen) → Frames m old mid before between → Frames m mid new between later → Frames m old new before later
-frames_both m old mid new before between later first second = record {
+pub frames_both : {may_write : unit.Unit → Bool} (m : ℕ) (old mid new : Machine m) (before between later : Seen) → FramesBut may_write m old mid before between → FramesBut may_write m mid new between later → FramesBut may_write m old new before later
+frames_both {may_write} m old mid new before between later first second = record {
   later = omega (arith, first.later, second.later);
-  keeps = keeps_on is_read is_written true before.world between.world later.world first.keeps second.keeps;
+  keeps = keeps_on is_read may_write true before.world between.world later.world first.keeps second.keeps;
   told = second.told ∙ first.told;
   told_keys = second.told_keys ∙ first.told_keys;
   told_sectors = second.told_sectors ∙ first.told_sectors;

@@ -1,14 +1,12 @@
 -- The Load key, over a machine that shows a state.
-use Rattle.std.proofs.Common.{◌≡◌, ℕ, List, [], length, refl, sym, ◌∙◌, ap, subst}
-use Rattle.std.specs.Prelude.{Option, is_some, ⊤, Result}
+use Rattle.std.proofs.Common.{◌≡◌, ℕ, [], length, refl, sym, ◌∙◌, ap, subst}
+use Rattle.std.specs.Prelude.{is_some, ⊤, Result}
 use Rattle.digit_core.specs.Size.{size}
 use Rattle.indicators.specs.declared.Panel.{Panel}
 use Rattle.indicators.specs.Lamps.{panel_for_load}
 use Rattle.branch_ops.specs.Registers.{on_at}
 use Rattle.outside_io.specs.World.{Seen}
-use Rattle.outside_io.specs.Frame.{Tells}
 use Rattle.traces.specs.Break.{Break}
-use Rattle.card_code.specs.Entries.{Entry}
 use Rattle.card_unit.specs.Hopper.{hopper_left, own_cards, hopper_feed, GoesOnReadingCards}
 use Rattle.card_unit.specs.Reader.{read_card_numeric}
 use Rattle.card_code.specs.Feed.{station, ReadsAll, ReadsNone}
@@ -18,9 +16,8 @@ use Rattle.cpu_step.specs.State.{State}
 use Rattle.cpu_step.specs.Load.{state_for_load, load_trace, mode_after, load_key, load_cut}
 use Rattle.cpu_step.specs.Machine.{state_with, Shows, Makes, StopsShort}
 use Rattle.typewriter.specs.Keys.{keys_left}
-use Rattle.cpu_step.proofs.Texts.{texts_same}
 use Rattle.cpu_step.proofs.ShownStates.{whatever, some_state, some_shown}
-use Rattle.cpu_step.proofs.CardRows.{keys_told, read_state, looked, told_same, tells_next}
+use Rattle.cpu_step.proofs.CardRows.{read_state, looked, told_same, tells_next, shows_looked, shows_none}
 
 module _ (m : ℕ) (old new : Machine m) (before later : Seen) (panel : Panel) (panel_is : panel ≡ panel_for_load old.panel) (regs : new.regs ≡ on_at old.regs 0) (arms : new.arms ≡ old.arms) (keys : new.keys ≡ old.keys) (own : own_cards new.hopper ≡ own_cards old.hopper) (cards : GoesOnReadingCards old.hopper new.hopper before later) where
   -- the card was taken, or there was none
@@ -31,14 +28,9 @@ module _ (m : ℕ) (old new : Machine m) (before later : Seen) (panel : Panel) (
       let lines = whatever (keys_left old.keys before.world) [] in
       let pack = whatever before.world.sectors (λ a. []) in
       let s : State = state_with m old before.world all.given lines.given pack.given in
-      let texts = texts_same before.world later.world (λ u. all.looks.keeps.written u refl) in
       let leaves = rw panel_is at all.leaves in
-      let there : Shows m new later.world (record (state_for_load s) { core = new.core; panel = new.panel; hopper = all.rest; mode = mode_after r }) = record {
-        is = λ i. record { core = new.core; regs = sym regs i; panel = new.panel; arms = sym arms i; hopper = all.rest; keys = lines.given; written = sym texts i; sectors = pack.given; mode = sym mode_is i };
-        sectors = subst (λ (o : Option (ℕ → List ℕ)). Tells o pack.given) (sym (all.looks.keeps.sectors refl)) pack.told;
-        hopper = tells_next (hopper_left old.hopper before.world) (hopper_left new.hopper later.world) all.rest all.left;
-        keys = keys_told old.keys new.keys before later keys all.looks lines.given lines.told;
-      } in
+      let there : Shows m new later.world (record (state_for_load s) { core = new.core; panel = new.panel; hopper = all.rest; mode = mode_after r }) =
+      shows_looked m old new before later (on_at old.regs 0) (mode_after r) regs mode_is arms keys all.looks new.core new.panel all.rest lines.given pack.given refl refl (tells_next (hopper_left old.hopper before.world) (hopper_left new.hopper later.world) all.rest all.left) lines.told pack.told in
       let end = read_state m new before later (λ n. read_card_numeric n 0) (state_for_load s) (size m) long all.rest leaves in
       let answer : (load_trace (state_for_load s)).answer ≡ r = ap (λ (n : ℕ). (read_card_numeric n 0 all.given).answer) long ∙ all.answers in
       record {
@@ -51,23 +43,13 @@ module _ (m : ℕ) (old new : Machine m) (before later : Seen) (panel : Panel) (
   -- the host failed
   pub load_fails : new.mode ≡ mode.Faulted → ReadsNone hopper_feed (station old.core panel old.hopper before) (station new.core new.panel new.hopper later) → StopsShort m load_cut old new before later
   unfolding load_cut
-  load_fails mode_is none =
-      let looks = none.fails.stays.looks in
-      let texts = texts_same before.world later.world (λ u. looks.keeps.written u refl) in
-      let s : State = some_state m old before.world in
-      let shown = some_shown m old before.world in
-      record {
-        done = 0;
-        makes = record {
-          state = s;
-          shown = shown;
-          made = record {
-            is = λ i. record { core = sym none.core_same i; regs = sym regs i; panel = sym (none.panel_same ∙ panel_is) i; arms = sym arms i; hopper = s.hopper; keys = s.keys; written = sym texts i; sectors = s.sectors; mode = sym mode_is i };
-            sectors = subst (λ (o : Option (ℕ → List ℕ)). Tells o s.sectors) (sym (looks.keeps.sectors refl)) shown.sectors;
-            hopper = subst (λ (o : Option (List Entry)). Tells o s.hopper) (sym none.fails.stays.left) shown.hopper;
-            keys = keys_told old.keys new.keys before later keys looks s.keys shown.keys;
-          };
-          frames = looked m old new before later keys looks (ap is_some none.fails.stays.left) own cards;
-        };
-        rose = none.fails.rose;
-      }
+  load_fails mode_is none = record {
+    done = 0;
+    makes = record {
+      state = some_state m old before.world;
+      shown = some_shown m old before.world;
+      made = shows_none m old new before later (on_at old.regs 0) mode.Faulted regs mode_is arms keys panel (panel_for_load old.panel) panel_is none;
+      frames = looked m old new before later keys none.fails.stays.looks (ap is_some none.fails.stays.left) own cards;
+    };
+    rose = none.fails.rose;
+  }

@@ -1,9 +1,10 @@
 -- States that a machine shows.
 use Rattle.std.proofs.Common.{◌≡◌, ℕ, List, [], ◌∷◌, take, refl, sym, ◌∙◌, ap, subst, arith}
-use Rattle.std.specs.Prelude.{◌-◌, true, slice_set, Option, Some, None, is_some, ⊤, Result, Ok, Err}
+use Rattle.std.specs.Prelude.{◌-◌, Bool, true, slice_set, Option, Some, None, is_some, ⊤, Result, Ok, Err}
 use Rattle.addr_indirect.specs.declared.Stop.{Stop}
 use Rattle.addr_indirect.specs.declared.Instr.{Instr}
 use Rattle.addr_indirect.specs.Fetch.{fetch}
+use Rattle.outside_io.specs.declared.host.Unit as unit
 use Rattle.outside_io.specs.World.{World, Seen, at, with_sector}
 use Rattle.outside_io.specs.Frame.{Tells, ToldValue}
 use Rattle.outside_io.proofs.Frames.{keeps_all}
@@ -33,7 +34,7 @@ use Rattle.cpu_step.specs.State.{State}
 use Rattle.cpu_step.specs.Effects.{Effect, CellStored, Light, Arm, Written, Sector, CardTaken, LineTaken, with_bytes, after}
 use Rattle.cpu_step.specs.Act.{Next, operands, act, act_with, act_over}
 use Rattle.cpu_step.specs.Step.{instruction_trace, instruction, with_parity, state_after_stop, check_stop, state_after_check, settle, step, partial_step}
-use Rattle.cpu_step.specs.Machine.{state_with, Shows, Frames, Makes, DidAction, DidFirst, Acts, StopsShort, Steps, is_read, is_written}
+use Rattle.cpu_step.specs.Machine.{state_with, Shows, Frames, FramesBut, Makes, DidAction, DidFirst, Acts, StopsShort, Steps, is_read}
 
 -- a value that is the told one, where one is told
 pub whatever : {A : Type 0} (o : Option A) (x : A) → ToldValue o (λ y. ⊤)
@@ -49,10 +50,10 @@ module _ (m : ℕ) (machine : Machine m) (w : World) where
   some_shown = record { is = refl; hopper = (whatever (hopper_left machine.hopper w) []).told; keys = (whatever (keys_left machine.keys w) []).told; sectors = (whatever w.sectors (λ a. [])).told }
 
 -- nothing outside changed
-pub frames_same : (m : ℕ) (old new : Machine m) (before : Seen) → new.hopper ≡ old.hopper → new.keys ≡ old.keys → Frames m old new before before
-frames_same m old new before same same_keys = record {
+pub frames_same : {may_write : unit.Unit → Bool} (m : ℕ) (old new : Machine m) (before : Seen) → new.hopper ≡ old.hopper → new.keys ≡ old.keys → FramesBut may_write m old new before before
+frames_same {may_write} m old new before same same_keys = record {
   later = omega arith;
-  keeps = keeps_all is_read is_written true before.world;
+  keeps = keeps_all is_read may_write true before.world;
   told = ap (λ h. is_some (hopper_left h before.world)) same;
   told_keys = ap (λ k. is_some (keys_left k before.world)) same_keys;
   told_sectors = refl;

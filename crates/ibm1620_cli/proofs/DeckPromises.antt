@@ -1,7 +1,8 @@
 -- The promises of a machine that is powered on over a hopper, makes the steps of a deck, and takes the turns.
-use Rattle.std.proofs.Common.{◌≡◌, ℕ, ◌≤◌, true, List, [], ◌++◌, take, inl, inr, refl, sym, ◌∙◌, ap, subst, arith}
+use Rattle.std.proofs.Common.{◌≡◌, ℕ, ◌≤◌, Bool, true, List, [], ◌++◌, take, inl, inr, refl, sym, ◌∙◌, ap, subst, arith}
 use Rattle.std.proofs.lemmas.List.{append-nil}
 use Rattle.std.specs.Prelude.{Option, Some, None, is_some, IfSome, option_map}
+use Rattle.outside_io.specs.declared.host.Unit as unit
 use Rattle.outside_io.specs.World.{World, Seen, Rose}
 use Rattle.outside_io.specs.Frame.{Keeps}
 use Rattle.outside_io.specs.Events.{Event, after_events, DidAll}
@@ -15,7 +16,7 @@ use Rattle.cpu_step.specs.State.{State}
 use Rattle.cpu_step.specs.Effects.{Effect}
 use Rattle.cpu_step.specs.Load.{state_for_load, load_trace, load_key, load_cut}
 use Rattle.cpu_step.specs.Outside.{all_outside, load_events}
-use Rattle.cpu_step.specs.Machine.{machine_texts, state_of, IsPowered, Frames, is_read, is_written}
+use Rattle.cpu_step.specs.Machine.{machine_texts, state_of, IsPowered, Frames, FramesBut, is_read, is_written}
 use Rattle.cpu_step.specs.Console.{shown_on}
 use Rattle.cpu_step.proofs.ExactCards.{exact, states_told, frames_both}
 use Rattle.cpu_step.proofs.InputsTaken.{HasTaken, taken_on, load_taken, load_cut_taken}
@@ -34,7 +35,6 @@ use Rattle.operator_script.proofs.Running.{place_is}
 use Rattle.operator_script.proofs.TurnEventLemmas.{DoesPart, last_does, last_takes, way_did}
 use Rattle.sps_pass_two.specs.Assembled.{PlacedText}
 use Rattle.console_debug.specs.declared.commands.Commands.{Commands}
-use Rattle.console_debug.specs.Debugs.{Attends}
 use Rattle.ibm1620_cli.specs.declared.status.Status.{Status}
 use Rattle.ibm1620_cli.specs.declared.status.Status.TheVariants.{HostFault, OutOfMemory, SessionEnded}
 use Rattle.ibm1620_cli.specs.declared.answer.Answer.{Answer}
@@ -63,7 +63,7 @@ ran_by {A = A} k (Some a) x here y z g how z_is x_is told place last each =
     place found.1 found.2 ∙ ap (λ (q : RunPlace). Some q.state) (sym over)
 
 -- what a machine leaves is bound as before, and of the inputs it reads its own alone
-pub frames_stay : (m : ℕ) (old new : Machine m) (before after : Seen) → Frames m old new before after → LeavesUnread reads_feed before.world after.world
+pub frames_stay : {may_write : unit.Unit → Bool} (m : ℕ) (old new : Machine m) (before after : Seen) → FramesBut may_write m old new before after → LeavesUnread reads_feed before.world after.world
 frames_stay m old new before after frames = record { in_use = frames.keeps.in_use; names = frames.keeps.names; left = λ u unread. frames.keeps.left u (neither (is_read u) (reads_pack u) unread).0; sectors = λ none. cc; asked = λ u unread. frames.keeps.asked u (neither (is_read u) (reads_pack u) unread).0; once = λ u fed. once_same _ _ (frames.keeps.asked u (neither (is_read u) (reads_pack u) fed).0) }
 
 -- what stays in a run, however it ends
@@ -351,21 +351,11 @@ module _ {A : Type 0} (m steps limit : ℕ) (own : Option (List (List ℕ))) (be
 
 -- A SESSION
 
-attends_stay : (m : ℕ) (old new : Machine m) (before after : Seen) → Attends m old new before after → LeavesUnread reads_feed before.world after.world
-attends_stay m old new before after attends = record {
-  in_use = attends.keeps.in_use;
-  names = attends.keeps.names;
-  left = λ u unread. attends.keeps.left u (neither (is_read u) (reads_pack u) unread).0;
-  sectors = λ none. cc;
-  asked = λ u unread. attends.keeps.asked u (neither (is_read u) (reads_pack u) unread).0;
-  once = λ u fed. once_same _ _ (attends.keeps.asked u (neither (is_read u) (reads_pack u) fed).0);
-}
-
 pub session_stays : (m limit : ℕ) (placed : List PlacedText) (hopper : Hopper) (script : Script) (commands : Commands) (old new : Seen) (answer : Answer) → HoldsSession m limit placed hopper script commands old new answer → LeavesUnread reads_feed old.world new.world
 session_stays m limit placed hopper script commands old new answer (lacks_memory status same) = stays_same reads_feed old new same
 session_stays m limit placed hopper script commands old new answer (breaks_key status broke shows) = frames_stay m broke.machine broke.keyed old new broke.breaks.makes.frames
 session_stays m limit placed hopper script commands old new answer (breaks_session pressed key left left_script status shows broke) =
-    stays_again old.world pressed.world new.world (frames_stay m key.machine key.keyed old pressed key.makes.frames) (attends_stay m key.keyed left pressed new broke.frames)
+    stays_again old.world pressed.world new.world (frames_stay m key.machine key.keyed old pressed key.makes.frames) (frames_stay m key.keyed left pressed new broke.frames)
 session_stays m limit placed hopper script commands old new answer (ends_session pressed mid key left left_script set ended reports shows) =
     stays_again old.world pressed.world new.world (frames_stay m key.machine key.keyed old pressed key.makes.frames)
-    (stays_on reads_feed pressed.world mid.world new.world (attends_stay m key.keyed left pressed mid ended.frames) (report_stays mid new SessionEnded (report_line SessionEnded) answer.status reports))
+    (stays_on reads_feed pressed.world mid.world new.world (frames_stay m key.keyed left pressed mid ended.frames) (report_stays mid new SessionEnded (report_line SessionEnded) answer.status reports))

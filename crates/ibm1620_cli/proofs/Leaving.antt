@@ -1,6 +1,7 @@
 -- What is left of the inputs of a machine, and what its console shows.
-use Rattle.std.proofs.Common.{◌≡◌, ℕ, List, drop, refl, sym, ◌∙◌, ap, subst}
+use Rattle.std.proofs.Common.{◌≡◌, ℕ, Bool, List, drop, refl, sym, ◌∙◌, ap, subst}
 use Rattle.std.specs.Prelude.{Option, Some, None, IfSome}
+use Rattle.outside_io.specs.declared.host.Unit as unit
 use Rattle.outside_io.specs.declared.host.Unit.TheVariants as units
 use Rattle.outside_io.specs.World.{World, Seen, Goes, world_after_put}
 use Rattle.outside_io.specs.Events.{Event, cards_in, lines_in}
@@ -12,11 +13,10 @@ use Rattle.typewriter.specs.Keys as keyboard
 use Rattle.cpu_step.specs.declared.machine.Machine.{Machine}
 use Rattle.cpu_step.specs.declared.console.Console.{Console}
 use Rattle.cpu_step.specs.State.{State}
-use Rattle.cpu_step.specs.Machine.{state_with, over_all, state_of, IsPowered, Frames}
+use Rattle.cpu_step.specs.Machine.{state_with, over_all, state_of, IsPowered, FramesBut}
 use Rattle.cpu_step.specs.Console.{shown_on, console_of}
 use Rattle.cpu_step.proofs.ExactCards.{state_is}
 use Rattle.cpu_step.proofs.InputsTaken.{HasTaken}
-use Rattle.console_debug.specs.Debugs.{Attends}
 use Rattle.ibm1620_cli.specs.Ways.{Way}
 use Rattle.ibm1620_cli.specs.Promise.{MachineEnd, HasLeft, LeavesMachine, StandsSomewhere, AsksForInputs, asked}
 use Rattle.ibm1620_cli.proofs.TakenInputs.{left_as, left_same}
@@ -72,11 +72,8 @@ powered_reads m own pile hopper machine w s own_is begins told powered is =
       lines = powered.begins s.keys w (subst (λ (o : Option (List Entry)). IfSome o (λ left. s.keys ≡ left)) (sym (machine_lines m machine w s is)) refl);
     }
 
-pub frames_read : (m : ℕ) (had : Supply) (old new : Machine m) (before after : Seen) → Frames m old new before after → HasReadOf m had old before.world → HasReadOf m had new after.world
+pub frames_read : {may_write : unit.Unit → Bool} (m : ℕ) (had : Supply) (old new : Machine m) (before after : Seen) → FramesBut may_write m old new before after → HasReadOf m had old before.world → HasReadOf m had new after.world
 frames_read m had old new before after frames has = record { own_is = frames.own ∙ has.own_is; cards = frames.cards (record { pile = had.pile; all = had.cards }) has.cards; lines = frames.lines had.keys has.lines }
-
-pub attends_read : (m : ℕ) (had : Supply) (old new : Machine m) (before after : Seen) → Attends m old new before after → HasReadOf m had old before.world → HasReadOf m had new after.world
-attends_read m had old new before after frames has = record { own_is = frames.own ∙ has.own_is; cards = frames.cards (record { pile = had.pile; all = had.cards }) has.cards; lines = frames.lines had.keys has.lines }
 
 -- a machine that shows a state has its cards and its lines left, and its console is that of the state
 pub machine_has : (m : ℕ) (had : Supply) (machine : Machine m) (w : World) (s last : State) (shown : Option Console) → state_of m machine w ≡ Some s → HasReadOf m had machine w → shown ≡ Some (shown_on m machine) → HasLeft (rest_at had last) s.hopper s.keys s shown w

@@ -53,7 +53,7 @@ use Rattle.ibm1620_cli.proofs.Programs.{powered_state, pile_told}
 use Rattle.ibm1620_cli.proofs.Writes.{stops_fails, stops_asked}
 use Rattle.operator_script.proofs.Running.{place_is}
 use Rattle.ibm1620_cli.proofs.TakenInputs.{makings_take, taken_behind, stops_unasked}
-use Rattle.ibm1620_cli.proofs.Leaving.{Supply, HasReadOf, powered_reads, frames_read, attends_read, machine_has, machine_asks}
+use Rattle.ibm1620_cli.proofs.Leaving.{Supply, HasReadOf, powered_reads, frames_read, machine_has, machine_asks}
 use Rattle.ibm1620_cli.proofs.TurnPromises.{supply_of, none_shown}
 use Rattle.ibm1620_cli.proofs.KeptPromises.{ReadyJob, promise_report, promise_memory}
 use Rattle.ibm1620_cli.proofs.DeckPromises.{key_part, stops_on}
@@ -229,7 +229,7 @@ module _ (before : List Event) (limit : ℕ) (placed : List PlacedText) (p : Pro
             };
             inputs = machine_asks p.modules (supply feed) left (way feed) (powered_by feed) (last feed) all base.world new.world here.place.state shown at_place
                 (taken_from feed done here.place.state (record { cards = here.cards; lines = here.lines })) refl refl
-                (attends_read p.modules (supply feed) key.keyed left pressed new broke.frames keyed.1) shows
+                (frames_read p.modules (supply feed) key.keyed left pressed new broke.frames keyed.1) shows
                 (inl (in_act here.done here.next here.rest here.parts here.place here.within refl));
           }
 
@@ -249,7 +249,7 @@ module _ (before : List Event) (limit : ℕ) (placed : List PlacedText) (p : Pro
 
         session_done : (feed : MachineFeed) → IsPressed feed → By (first feed) → Ready (job feed)
         session_done feed keyed here =
-            let has = attends_read p.modules (supply feed) key.keyed left pressed mid out.frames keyed.1 in
+            let has = frames_read p.modules (supply feed) key.keyed left pressed mid out.frames keyed.1 in
             let at : State = last feed in
             let at_place : state_of p.modules left mid.world ≡ Some at = (place_is p.modules (run_state p.modules left left_script out.steps) mid.world (place_of_session (over feed) (session_from g (first feed))) here.place).0 in
             let all : List Event = before ++ ((loaded feed).taken ++ events feed) in
