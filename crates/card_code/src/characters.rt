@@ -13,7 +13,7 @@ use digit_core::Digit;
 /// The object characters are the digits that they stand for; letters, a blank and some signs are read by their holes, as `A` and `S`,
 /// which are 1 and 2. docs/formats.md has the table. `None` for a byte that is not in it, which a reading instruction takes for an
 /// unflagged 0 with the read check on.
-/// Source: CPU manual, card codes; the characters of flags and marks, and which bytes are none, are this project's own.
+/// Source: CPU manual, card codes; the characters that no manual has, and which bytes are none, are this project's own.
 pub fn num_of(c: u8) -> Option<Digit>
     ensures is { result ≡ num_of c }
     ensures good { IfSome result IsGood }

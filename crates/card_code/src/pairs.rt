@@ -11,7 +11,7 @@ use indicators::{Panel, WRITE_CHECK};
 /// The zone digit and the numeric digit of a character that is read alphamerically.
 ///
 /// `None` for a byte that has no pair, which a reading instruction takes for 00 with the read check on.
-/// Source: 1622 manual, card codes; the characters of flags and marks, and which bytes have no pair, are this project's own.
+/// Source: 1622 manual, card codes; the characters that no manual has, and which bytes have no pair, are this project's own.
 pub fn alpha_of(c: u8) -> Option<(u8, u8)>
     ensures is { result ≡ option_map digits (alpha_of c) }
     ensures good { IfSome result IsGoodPair }
@@ -22,7 +22,7 @@ pub fn alpha_of(c: u8) -> Option<(u8, u8)>
 /// The character of a pair of digits, the zone `z` and the number `n`.
 ///
 /// `None` for a pair that no character has; a writing instruction writes it as a blank with the write check on.
-/// Source: 1622 manual, card codes; the characters of flags and marks, and which pairs have none, are this project's own.
+/// Source: 1622 manual, card codes; the characters that no manual has, and which pairs have none, are this project's own.
 pub fn punch_alpha(z: u8, n: u8) -> Option<u8>
     ensures { result ≡ punch_alpha z n }
 {
