@@ -79,12 +79,15 @@ pub(crate) fn room_for(rt: &HostRuntime, read: &Read<'_>) -> Result<Option<PackR
 // Whether the job that the words say has a machine, and no file for its pack.
 fn has_blank_pack(read: &Read<'_>) -> bool {
     match &read.said {
-        Ok(Some(plain)) => {
-            matches!(
-                plain.command,
-                Command::Load | Command::Run | Command::Debug | Command::Trial
-            ) && plain.names.get(Unit::Pack).is_none()
-        }
+        Ok(Some(plain)) => has_machine(plain.command) && plain.names.get(Unit::Pack).is_none(),
         _ => false,
+    }
+}
+
+// Whether the job of a command turns a machine on.
+fn has_machine(command: Command) -> bool {
+    match command {
+        Command::Load | Command::Run | Command::Debug | Command::Trial => true,
+        Command::Assemble | Command::Generate | Command::Disk => false,
     }
 }
