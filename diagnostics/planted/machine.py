@@ -293,7 +293,8 @@ class Machine:
         return self.where(self.core[q] & 15 != GROUP, p)
 
     def indicator(self):
-        return 10 * (self.core[self.ir + 8] & 15) + (self.core[self.ir + 9] & 15)
+        tens, units = self.core[self.ir + 8] & 15, self.core[self.ir + 9] & 15
+        return 10 * tens + units if max(tens, units) < 10 else 0
 
     def test(self, code):
         """Whether an indicator is on. The test turns off those that are so."""

@@ -3,22 +3,23 @@
 from .deck import SIZE, Deck
 
 STILL = "000000000000"
-# A pass that looks for what the one before it wrote, and writes in its place: what it looks for, how it branches to WRONG, and what it writes.
+# A pass that looks for what the one before it wrote, and writes in its place: what it looks for, how it branches to WRONG, and what it writes. No
+# address is an indirect one: the deck writes each address into the instruction that uses it.
 PASSES = (
     ("FLAGGED NINES", "R", "ZEROS", "PAT0", """
-        READ1:  BNF  WRONG1,-AP
-                TD   DIGIT,-AP
+                BNF  WRONG1,CELL
+                TD   DIGIT,CELL
                 CF   DIGIT
                 C    DIGIT,NINE
                 BE   GOOD1
     """),
     ("ZEROS", "0", "MARKS", "PATM", """
-        READ2:  BD   WRONG2,-AP
-                BNF  GOOD2,-AP
+                BD   WRONG2,CELL
+                BNF  GOOD2,CELL
     """),
     ("MARKS", "|", "", "", """
-        READ3:  BNR  WRONG3,-AP
-                BNF  GOOD3,-AP
+                BNR  WRONG3,CELL
+                BNF  GOOD3,CELL
     """),
 )
 
@@ -33,12 +34,14 @@ def core():
     deck.code("""
         # PASS 1: ADDRESSES. ALL ARE WRITTEN BEFORE THE FIRST IS READ.
                 TFM  AP,FREE+4
-        PUT:    TF   -AP,AP
+        PUT:    TF   PUT1+6,AP
+        PUT1:   TF   0,AP
                 AM   AP,5,10
                 C    AP,TOP
                 BNH  PUT
                 TFM  AP,FREE+4
-        GET:    C    -AP,AP
+        GET:    TF   GET1+6,AP
+        GET1:   C    0,AP
                 BE   SAME
         # ONLY A FIELD THAT DIFFERS IS MADE A CASE, SO ONE CASE STANDS FOR ALL THAT ARE RIGHT.
                 TF   FIELD+28,AP
@@ -47,7 +50,8 @@ def core():
     """)
     deck.rows("FIELD", STILL, "]000000000001010")
     deck.code("""
-                TF   W+4,-AP
+                TF   TAKE+11,AP
+        TAKE:   TF   W+4,0
                 BTM  CHECK,0
         SAME:   AM   AP,5,10
                 C    AP,TOP
@@ -58,14 +62,19 @@ def core():
                 BTM  CHECK,0
         # FLAGGED NINES INTO EVERY POSITION, ONE AFTER THE OTHER.
                 TFM  AP,FREE
-        FILL:   TD   -AP,PAT9
+        FILL:   TF   FILL1+6,AP
+        FILL1:  TD   0,PAT9
                 AM   AP,1,10
                 C    AP,TOP
                 BNH  FILL
     """)
     for number, (looked_for, digit, written, pattern, looks) in enumerate(PASSES, 1):
         deck.remark(f"PASS {number + 1}: {looked_for} ARE LOOKED FOR{f', AND {written} WRITTEN' if written else ''}, ONE POSITION AFTER THE OTHER.")
-        deck.add("", "TFM", "AP,FREE")
+        deck.code(f"""
+                    TFM  AP,FREE
+            READ{number}: TF   MOVE{number}+11,AP
+            MOVE{number}: TD   CELL,0
+        """)
         deck.code(looks)
         deck.code(f"""
             WRONG{number}:TF   ROWS{number}+33,AP                     THE ADDRESS STANDS IN THE LINE, TOO
@@ -76,10 +85,16 @@ def core():
         """)
         deck.rows(f"ROWS{number}", STILL, f"{digit}000000000001010")
         deck.code("""
-                    TD   W,-AP
+                    TD   W,CELL
                     BTM  CHECK,0
         """)
-        deck.add(f"GOOD{number}", *(("TD", f"-AP,{pattern}") if pattern else ("NOP",)))
+        if pattern:
+            deck.code(f"""
+                GOOD{number}: TF   STOR{number}+6,AP
+                STOR{number}: TD   0,{pattern}
+            """)
+        else:
+            deck.add(f"GOOD{number}", "NOP")
         deck.code(f"""
                     AM   AP,1,10
                     C    AP,TOP
@@ -93,6 +108,7 @@ def core():
         PAT9:   DSC  1,-9
         PAT0:   DSC  1,0
         PATM:   DSC  1,@
+        CELL:   DSC  1,0
                 DC   1,0
         DIGIT:  DC   2,0
         NINE:   DC   2,9
