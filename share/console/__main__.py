@@ -1,15 +1,22 @@
 """The console of the machine in a browser: reads the words, and serves the page or writes a record. bin/console starts it."""
 
+import sys
+
+if sys.version_info < (3, 9):
+    sys.stderr.write("this python3 is version %d.%d; the console needs version 3.9 or later\n" % sys.version_info[:2])
+    sys.exit(126)
+
 import os
 import re
 import shutil
 import signal
 import stat
 import subprocess
-import sys
 import tempfile
 
+from address import read_token, write_address
 from answers import FILES, LIMIT, Answers, find_examples, read_file
+from exhibit import Visits, read_languages, read_settings
 from loop import Loop
 from page import read_page
 from program import SECONDS_MOST, SECONDS_OF_RECORD, Program, bound_files
@@ -17,13 +24,35 @@ from records import as_page, record
 from runs import Inputs
 from signs import Refused, script_of, to_text
 from store import LIMIT_MOST, SOURCE_MOST, Store
+from temporary import make_folder
 from web import Server
 
-ME = os.environ.get("IBM1620_CONSOLE_NAME", "console")
-USAGE = f"""usage: {ME} [--source FILE | --deck FILE] [--data FILE] [--keys FILE] [--script FILE] [--pack FILE]
-           [--core 20000|40000|60000] [--limit N] [--port N] [--record OUT.html [--steps N]]"""
-OPTIONS = ("source", "deck", *FILES, "core", "limit", "port", "record", "steps")
+HERE = os.path.dirname(os.path.realpath(__file__))
+ME = os.environ.get("IBM1620_ME", "console")
+USAGE = f"""usage: {ME} [--source FILE | --deck FILE | --exhibit] [OPTION VALUE]..
+Without a source or a deck the console begins with the examples.
+  --source FILE      the source
+  --deck FILE        a deck
+  --data FILE        the data cards
+  --keys FILE        the lines of the keyboard
+  --script FILE      the operator's script
+  --pack FILE        the pack of the disk drives, which is only read
+  --core N           20000, 40000 or 60000 positions; 20000 without it
+  --limit N          steps at most; 1000000 without it
+  --record OUT.html  writes the run as one page, and serves nothing
+  --steps N          steps of the record at most; 10000 without it
+  --port N           the port; 1620 without it, and 0 takes one that is free
+  --address FILE.html  gets a page that leads to the console
+  --exhibit          a panel for visitors, which begins again by itself
+  --idle SECONDS     of the exhibit: until it begins again; 60 without it
+  --pace CHARACTERS  of the exhibit: a second; 10 without it
+  --language XX      of the exhibit, as en or de; en without it
+  --help, -h         this text"""
+OPTIONS = ("source", "deck", *FILES, "core", "limit", "port", "address", "record", "steps", "idle", "pace", "language")
+SERVING = {"port", "address"}
+VISITING = {"exhibit", "idle", "pace", "language"}
 PORT, STEPS = 1620, 10_000
+IDLE, PACE = 60, 10     # seconds until the exhibit begins again by itself; characters a second
 
 
 class Failed(Exception):
@@ -34,24 +63,45 @@ class Failed(Exception):
         self.code = code
 
 
+def wrong(what):
+    """The failure for wrong words."""
+    return Failed(f"{ME}: {what}\n{USAGE.splitlines()[0]}", 2)
+
+
 def read_words(words):
     """The options, by their names; each at most once."""
+    if words in (["--help"], ["-h"]):
+        say(USAGE)
+        raise Failed("", 0)
     given, place = {}, 0
     while place < len(words):
         name = words[place][2:]
+        if words[place] == "--exhibit" and name not in given:
+            given[name] = True
+            place += 1
+            continue
         value = words[place + 1] if place + 1 < len(words) else ""
-        if not words[place].startswith("--") or name not in OPTIONS or name in given or not value or value.startswith("-"):
-            raise Failed(USAGE, 2)
+        if not words[place].startswith("--") or name not in OPTIONS or name in given:
+            raise wrong(f"{words[place]}: " + ("given twice" if name in given else "no such option"))
+        if not value or value.startswith("-"):
+            raise wrong(f"--{name} needs a value after it")
         given[name] = value
         place += 2
     kinds = [kind for kind in ("source", "deck") if kind in given]
-    if len(kinds) == 2 or not kinds and set(given) - {"port"} or "steps" in given and "record" not in given or "port" in given and "record" in given:
-        raise Failed(USAGE, 2)
+    allowed = SERVING | VISITING if "exhibit" in given else set(given) - VISITING if kinds else SERVING
+    if len(kinds) == 2 or set(given) - allowed or "steps" in given and "record" not in given or SERVING & set(given) and "record" in given:
+        raise wrong(" ".join(f"--{name}" for name in given) + ": these do not go together, or another one is missing")
+    is_free_port_good = "port" not in given and "exhibit" not in given      # an exhibit is looked for where it was
     number(given, "port", PORT, 0, 65535)
+    given["port"] = (given["port"], 0) if is_free_port_good else (given["port"],)
     number(given, "limit", LIMIT, 1, LIMIT_MOST)
     number(given, "steps", STEPS, 1, LIMIT_MOST)
+    number(given, "idle", IDLE, 5, 3600)
+    number(given, "pace", PACE, 1, 1000)
     if given.setdefault("core", "20000") not in ("20000", "40000", "60000"):
-        raise Failed(USAGE, 2)
+        raise wrong(f"--core {given['core']}: not 20000, 40000 or 60000")
+    if not re.fullmatch(r"[a-z]{2,3}", given.setdefault("language", "en")):
+        raise wrong(f"--language {given['language']}: not two or three small letters")
     given["kind"] = kinds[0] if kinds else None
     return given
 
@@ -59,7 +109,7 @@ def read_words(words):
 def number(given, name, usual, least, most):
     text = given.get(name, str(usual))
     if not re.fullmatch(r"[0-9]{1,9}", text) or not least <= int(text) <= most:
-        raise Failed(f"{ME}: --{name} {text}: no number from {least} to {most}\n{USAGE}", 2)
+        raise wrong(f"--{name} {text}: not a number from {least} to {most}")
     given[name] = int(text)
 
 
@@ -146,18 +196,35 @@ def make_record(loop, store, given, inputs, page, rule):
     say(f"RECORDED STEPS {last} BYTES {len(data)}: {end['line'] if not rest else 'the first steps' + rest}")
 
 
-def serve(loop, store, given, inputs, page, rule, examples):
-    answers = Answers(store, find_examples(examples), as_text(inputs) if inputs else None)
+def answers_for(given, store, inputs, examples):
+    """What answers the requests of the page: of visitors, or of a user who debugs."""
+    found = find_examples(examples)
+    if "exhibit" in given:
+        return Visits(store, found, read_settings(HERE), given["idle"], given["pace"])
+    return Answers(store, found, as_text(inputs) if inputs else None)
+
+
+def serve(loop, answers, given, page, rule):
+    """Serves the page until a signal comes."""
+    path = given.get("address")
     try:
-        server = Server(loop, given["port"], answers, page.encode(), rule)
+        token = read_token(path) if path else None
     except OSError as error:
-        raise Failed(f"{ME}: port {given['port']}: {error.strerror}; --port can name another one, and 0 takes one that is free", 7) from None
-    say(f"The console is at {server.address}\n^C ends it.")
+        raise Failed(f"{ME}: --address {path}: {error.strerror}", 7) from None
+    try:
+        server = Server(loop, given["port"], answers, page.encode(), rule, token)
+    except OSError as error:
+        raise Failed(f"{ME}: port {given['port'][0]}: {error.strerror}; --port can name another one, and 0 takes one that is free", 7) from None
+    if path:
+        try:
+            write_address(path, server.address)
+        except OSError as error:
+            raise Failed(f"{ME}: --address {path}: {error.strerror}", 7) from None
+    say(f"{path} leads to the console: open it in a browser.\n^C ends it." if path else f"The console is at {server.address}\n^C ends it.")
     loop.run()
 
 
 def main(words):
-    here = os.path.dirname(os.path.realpath(__file__))
     given = read_words(words)
     inputs = read_inputs(given)
     program = os.environ["IBM1620_PROGRAM"]
@@ -166,13 +233,16 @@ def main(words):
                                 stdin=subprocess.DEVNULL, stdout=subprocess.DEVNULL, check=False).returncode:
         return 126      # what is wrong has been told by the build
     try:
-        page, rule = read_page(here)
+        languages = read_languages(HERE, given["language"])
+        page, rule = read_page(HERE, "exhibit" if "exhibit" in given else "page", languages)
+    except KeyError:
+        raise Failed(f"{ME}: --language {given['language']}: there is no file words-{given['language']}.json in {HERE}", 2) from None
     except OSError as error:
         raise Failed(f"{ME}: {error.filename}: {error.strerror}", 126) from None
     bound_files()
     loop = Loop()
     try:
-        folder = tempfile.mkdtemp(prefix="ibm1620-console-", dir=os.environ.get("TMPDIR") or None)
+        folder, lock = make_folder()
     except OSError as error:
         raise Failed(f"{ME}: no folder could be made for the files of the runs: {error.strerror}; set TMPDIR to one that may be written", 7) from None
     try:
@@ -180,7 +250,7 @@ def main(words):
         if "record" in given:
             make_record(loop, store, given, inputs, page, rule)
         else:
-            serve(loop, store, given, inputs, page, rule, os.environ.get("IBM1620_EXAMPLES", ""))
+            serve(loop, answers_for(given, store, inputs, os.environ.get("IBM1620_EXAMPLES", "")), given, page, rule)
         return 128 + loop.stopped if loop.stopped and ("record" in given or loop.stopped != signal.SIGINT) else 0
     except Refused as why:
         text = str(why).replace("\n", f"\n{ME}: ")
@@ -188,6 +258,7 @@ def main(words):
     finally:
         loop.close()
         shutil.rmtree(folder, ignore_errors=True)
+        os.close(lock)
 
 
 if __name__ == "__main__":
@@ -195,7 +266,7 @@ if __name__ == "__main__":
         code = main(sys.argv[1:])
     except Failed as why:
         try:
-            if sys.stderr is not None:      # else another file may have its number
+            if sys.stderr is not None and str(why):      # else another file may have its number
                 os.write(2, f"{why}\n".encode("utf-8", "surrogateescape"))
         except OSError:
             pass

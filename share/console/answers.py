@@ -84,6 +84,8 @@ async def describe(run):
 class Answers:
     """The requests of the page, by their names."""
 
+    saves = True
+
     def __init__(self, store, examples, first):
         self.store, self.examples, self.first = store, examples, first
         self.is_ahead = False

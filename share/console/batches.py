@@ -12,9 +12,9 @@ all else was as in the run: each address, what was typed, and core at its end.
 import collections
 import re
 
-from asking import CODES, turned
-from signs import joined
-from states import AT, debug, shows
+from signs import bits_of, joined
+from states import AT, shows
+from told import CODES
 
 STAYS = (11, 12, 16, 17)                # a BI leaves these as they are
 ROW = 36 * len(CODES)                   # the cells of the row, without the branch back
@@ -33,6 +33,13 @@ def room(core, changed):
         if free >= ROW + 12 and at % 2 == 0:
             return at
     return None
+
+
+def turned(address, old, new):
+    """The bits, as addresses and numbers, that make the cells from this address on hold another text."""
+    for at, (was, char) in enumerate(zip(old, new), address):
+        bits = bits_of(was) ^ bits_of(char)
+        yield from ((at, bit) for bit in range(6) if bits >> bit & 1)
 
 
 def row_of(base, held):

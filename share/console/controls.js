@@ -1,19 +1,5 @@
 // The controls, and the beginning.
 
-function turn(key, text, label, action) {
-  const button = el("button", text, "switch");
-  button.type = "button";
-  button.dataset.key = key;
-  button.dataset.text = text;
-  button.setAttribute("role", "switch");
-  button.setAttribute("aria-checked", "false");
-  button.setAttribute("aria-label", label);
-  button.onclick = () => press(action(view.s.switches[key]));
-  return button;
-}
-for (const key of ["1", "2", "3", "4"]) $("switches").append(turn(key, key, "program switch " + key, on => `SWITCH ${key} ${on ? "OFF" : "ON"}`));
-for (const [key, text] of [["overflow", "OVERFLOW"], ["io", "I/O"]]) $("checks").append(turn(key, text, text + " check switch at STOP", on => `${key.toUpperCase()} ${on ? "PROGRAM" : "STOP"}`));
-
 const byHandTo = n => { byHand(); return go(n); };
 $("first").onclick = () => byHandTo($("with-loading").checked || view.n <= 0 ? -view.about.loading : 0);
 $("back").onclick = () => byHandTo(view.n - 1);
@@ -28,6 +14,8 @@ $("count").onchange = () => {
 };
 $("pace").onchange = () => { if (view.playing) { stopPlaying(); start(); } };
 $("with-loading").onchange = () => draw(true);
+$("typing").onchange = () => { typewriter.pace = Number($("typing").value); };
+$("sound").onclick = () => { typewriter.hear(!typewriter.sound); $("sound").setAttribute("aria-pressed", !!typewriter.sound); };
 let sliding = null;
 $("slider").oninput = () => {
   byHand();
@@ -76,7 +64,7 @@ $("tabs").onkeydown = event => {
 };
 function reassemble() {
   const { data = "", keys = "", script = [], pack = null } = view.about || {}, limit = Math.trunc(Number($("limit").value)) || 1000000;
-  open({ kind: $("kind").value, text: $("source").value, data, keys, script, pack, core: Number($("size").value), limit: Math.max(1, Math.min(100000000, limit)), about: $("about").textContent }, view.name);
+  open({ kind: $("kind").value, text: $("source").value, data, keys, script, pack, core: Number($("size").value), limit: Math.max(1, Math.min(100000000, limit)), about: view.page }, view.name);
 }
 $("assemble").onclick = reassemble;
 $("source").onkeydown = event => { if (event.key === "Enter" && event.ctrlKey) { event.preventDefault(); reassemble(); } };
@@ -88,6 +76,7 @@ async function withInputs(inputs, n) {
   if (!made) { engine.about = old; return false; }
   view.about = made;
   view.scriptEdited = false;
+  typewriter.keyed = typewriter.keyed.filter(it => it.step < n);
   await go(n);
   return true;
 }
@@ -134,9 +123,11 @@ async function openExample(name) {
 }
 $("examples").onchange = () => { if ($("examples").value) openExample($("examples").value); };
 
-document.addEventListener("keydown", event => {
+// Keys of one letter act in the machine's part of the page alone, while it has the focus, and not if the user has turned them off.
+const machine = $("console");
+machine.addEventListener("keydown", event => {
   const target = event.target;
-  if (/^(INPUT|TEXTAREA|SELECT)$/.test(target.tagName) && target.id !== "slider" || event.ctrlKey || event.altKey || event.metaKey || !view.s) return;
+  if (/^(INPUT|TEXTAREA|SELECT)$/.test(target.tagName) && target.id !== "slider" || event.ctrlKey || event.altKey || event.metaKey || !view.s || !$("letters").checked) return;
   if (event.key === " " && /^(BUTTON|SUMMARY)$/.test(target.tagName)) return;
   const todo = { s: step, b: () => byHandTo(view.n - 1), e: () => $("end").click(), Home: () => $("first").click(), " ": () => view.playing ? halt() : start(), k: () => $("keyline").focus(),
     l: () => { const number = view.statementAt.get(view.s.ir); if (number) toggleStop(number); } }[event.key];
@@ -153,16 +144,20 @@ async function beginRecord(record) {
   $("recorded").hidden = false;
   $("recorded").textContent = `A record of ${thousands(record.last)} steps: it can be looked at step by step, and needs no server.`;
   $("source").readOnly = $("script").readOnly = true;
+  $("about").textContent = aboutRun(view.about);
   showInputs();
   newListing();
   tab("listing");
+  machine.focus({ preventScroll: true });
   await go(Math.min(0, engine.last()));
 }
 async function begin() {
+  drawWords();
   const record = $("record").textContent.trim();
   if (record) { await beginRecord(JSON.parse(record)); return; }
   engine = new ServerEngine();
   tab("listing");
+  machine.focus({ preventScroll: true });
   const list = await guard(() => engine.examples());
   if (!list) return;
   for (const name of list.names) { const option = el("option", name); option.value = name; $("examples").append(option); }

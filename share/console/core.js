@@ -30,6 +30,19 @@ const isFlag = c => FLAGGED.includes(c);
 const bare = c => isFlag(c) ? WITHOUT[FLAGGED.indexOf(c)] : c;
 const valueOf = c => { const i = WITHOUT.indexOf(bare(c)); return i < 0 ? -1 : VALUES[i]; };
 
+const BIT_NAMES = ["C", "F", "8", "4", "2", "1"];
+
+// The bits of a good cell, C first: their count is odd.
+function bitsOf(c) {
+  const value = valueOf(c);
+  if (value < 0) return null;
+  const bits = [isFlag(c), value & 8, value & 4, value & 2, value & 1].map(Boolean);
+  return [bits.filter(Boolean).length % 2 === 0, ...bits];
+}
+
+// Whether the instruction in these cells types digits, so that a letter on the paper is a digit with a flag.
+const typesDigits = cells => /^3[58].{6}01/.test([...cells].map(bare).join(""));
+
 // An address whose units digit stands at a cell, along its chain of indirect addresses.
 function operand(core, at) {
   const chain = [];
@@ -101,7 +114,8 @@ function fieldsOf(core, op, device, p, q) {
   else if (op === 39 && device === 1) f.p = clip(p - 1, upTo(core, p, 2)[1]);
   else if ((op === 36 && device === 5) || (op === 38 && device === 4)) f.p = clip(p, p + 79);
   else if ((op === 37 && device === 5) || (op === 39 && device === 4)) f.p = clip(p - 1, p + 158);
-  else if (op === 36 || op === 37) f.p = [p, p];
+  else if (op === 36) f.p = [p, p];
+  else if (op === 37) f.p = clip(p - 1, p);
   else if (op === 35) f.p = [p, n];
   return f;
 }

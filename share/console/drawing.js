@@ -6,30 +6,13 @@ const HINTS = { CHECK: "A stopped machine can't be started: go back and look.", 
   "NEED KEYS": "The machine waits for the keyboard: type a line and press Release.", LIMIT: "The limit of steps is reached, and the program would run on: the limit can be made greater under Source.",
   JAM: "A line of over 80 columns jams." };
 
-function register(id, chars, label) {
-  const box = $(id);
-  box.textContent = "";
-  for (const c of chars) {
-    const digit = el("span", undefined, "digit"), bits = el("span", undefined, "bits"), value = valueOf(c);
-    digit.append(el("span", bare(c), classes("d", isFlag(c) && "flag")));
-    for (const on of [isFlag(c), value & 8, value & 4, value & 2, value & 1]) bits.append(el("i", undefined, on && value >= 0 ? "on" : ""));
-    digit.append(bits);
-    box.append(digit);
-  }
-  box.setAttribute("aria-label", label);
-}
+const DISK_LAMPS = [[36, "DISK ADDR"], [37, "DISK LENGTH"], [38, "CYLINDER"]];
+const lamps = new Panel($("panel"), (key, on) => press(turnOf(key, on)), DISK_LAMPS), typewriter = new Typewriter($("paper"));
+typewriter.pace = 0;
 
 function drawLamps(lights, older) {
-  const box = $("lamps"), on = lights.on;
-  box.textContent = "";
-  for (const code of CODES) {
-    const lamp = el("span", undefined, classes("lamp", String(code) in on ? on[code] ? "on" : "off" : "dim"));
-    lamp.append(el("b", String(code).padStart(2, "0")), INDICATORS[code] + " ");
-    box.append(lamp);
-  }
+  lamps.showLights(lights);
   $("lamps-why").textContent = older ? `lights of step ${older}` : lights.why;
-  const known = lights.ir2 !== null && lights.ir2 !== undefined;
-  register("r-ir2", known ? five(lights.ir2) : "?????", "IR-2 " + (known ? five(lights.ir2) : "not known"));
   drawArms(lights.arms);
 }
 
@@ -151,26 +134,26 @@ function lookups(s) {
     (found.compare ? " (a comparison stores nothing, so this is worked out by the page alone)" : "")];
 }
 
+// What is new on the paper is known to be digits or text if one step has typed it, or if the run has told each piece.
 function drawPaper(s) {
-  const box = $("paper"), old = view.paper;
-  if (old === s.typed && box.childNodes.length) return;
-  box.textContent = "";
-  if (s.typedLength > s.typed.length) box.append(el("span", "(only the end of the paper is shown)\n", "note"));
-  if (old.length && s.typed.startsWith(old)) box.append(old, el("span", s.typed.slice(old.length), "new"));
-  else box.append(s.typed);
-  box.append(el("span", "", "head"));
-  view.paper = s.typed;
-  box.scrollTop = box.scrollHeight;
+  const text = s.typed.slice(s.typed.length - Math.max(0, s.typedLength - typewriter.length)), isNext = s.n === typewriter.step + 1 && s.was !== null && s.was !== undefined;
+  typewriter.showAt(s.typed, s.typedLength, s.n, s.pieces || isNext && [[text, typesDigits(s.core.slice(s.was, s.was + 12))]]);
 }
 
 function drawDisk(s) {
   const box = $("disk");
   if (!s.sectors.length) { box.textContent = engine.live || s.n === engine.last() ? "No sector holds anything but zeros." : "A record has the sectors as they are at its last step."; return; }
   const table = el("table", undefined, "grid"), head = table.insertRow();
+  table.setAttribute("aria-label", "sectors of the disk");
   for (const text of ["drive", "sector", "100 digits", ""]) head.append(el("th", text));
   for (const it of s.sectors) { const row = table.insertRow(); row.append(el("td", it.drive), el("td", five(it.sector)), el("td", it.text, "long"), el("td", it.written ? "written by this run" : "")); }
   box.textContent = "";
   box.append(table);
+}
+
+// Why a record goes no further, where the run does.
+function recordEnds(s) {
+  return engine.live || s.end || s.n < engine.last() ? "" : `The record ends here, with its first ${thousands(s.n)} steps; the run goes on, to ${view.about.end.line}. `;
 }
 
 // The line of what comes next, or of how the run has ended.
@@ -194,34 +177,41 @@ function drawConsole(s, it, at) {
   slider.setAttribute("aria-valuetext", "step " + s.n);
   if (document.activeElement !== $("count")) $("count").value = s.n;
   $("of").textContent = (s.n < 0 ? "the deck is loading itself; " : "") + `of ${thousands(about.end.n)}` + (about.loading ? `, the deck's ${about.loading} before 0` : "");
-  $("ir-name").textContent = over && over.kind === "HALT" ? "behind the halt" : "next instruction";
-  register("r-ir", s.ir === null ? "?????" : five(s.ir), "IR-1 " + (s.ir === null ? "not known" : five(s.ir)));
-  const cells = it.cells || "????????????";
-  register("r-op", cells.slice(0, 2), "operation " + (it.name || "not known"));
-  register("r-p", cells.slice(2, 7), "P digits " + cells.slice(2, 7));
-  register("r-q", cells.slice(7, 12), "Q digits " + cells.slice(7, 12));
-  $("op-name").textContent = it.name ? it.name + ", " + it.long : "";
+  const statement = view.statementAt.get(at);
+  lamps.show(s, view.playing, it);
+  lamps.tell(at, it, statement && view.lines[statement - 1] && view.lines[statement - 1].statement);
   $("next").textContent = nextLine(s, it);
   const acts = about.script.filter((line, i) => about.acts[i] === s.n).map(line => line.replace(/^AT \d+ /, "").replace(/^HALT /, "at the halt "));
   $("acts").textContent = acts.length ? "The operator, here: " + acts.join(", ") : "";
-  for (const b of $("switches").children) b.setAttribute("aria-checked", s.switches[b.dataset.key]);
-  for (const b of $("checks").children) { const on = s.switches[b.dataset.key]; b.setAttribute("aria-checked", on); b.textContent = b.dataset.text + (on ? " STOP" : " PROGRAM"); }
+  const focused = document.activeElement;
   const ended = !engine.live && s.n >= engine.last() || over && !(over.kind === "HALT" && engine.live);
   $("step").disabled = !!ended;
   $("start").disabled = view.playing || !!ended;
   $("back").disabled = s.n <= -about.loading;
   $("stop").disabled = !view.playing;
+  if (focused.disabled && machine.contains(focused)) machine.focus({ preventScroll: true });      // so that its keys go on
+}
+
+// A read from the keyboard writes the next line, if it is there already: as digits from P on, or as pairs from P - 1 on.
+function withLine(it, s) {
+  const keys = linesOf(view.about.keys), left = view.panel && view.panel.n === s.n ? view.panel.keysLeft : 0;
+  if (it.device !== "keyboard" || !it.fields.p || !Number.isInteger(left) || !left) return it;
+  const many = (it.op === 37 ? 2 : 1) * keys[keys.length - left].length, from = it.fields.p[0];
+  return { ...it, fields: { ...it.fields, p: many ? [from, Math.min(s.core.length - 1, from + many - 1)] : undefined } };
+}
+function drawCore(s) {
+  const at = shownAt(s), it = withLine(decode(s.core, at), s), [lit, note] = lookups(s);
+  drawRows(s, it, lit, at);
+  drawMap(s, it, at);
+  drawTable(s, lit, note);
+  return it;
 }
 
 // Draws the machine; `brief`, while it runs, leaves out what is long to draw.
 function draw(brief) {
   const s = view.s;
   if (!s) return;
-  const at = shownAt(s), it = decode(s.core, at), [lit, note] = lookups(s);
-  drawConsole(s, it, at);
-  drawRows(s, it, lit, at);
-  drawMap(s, it, at);
-  drawTable(s, lit, note);
+  drawConsole(s, drawCore(s), shownAt(s));
   drawFields(s);
   drawPaper(s);
   drawListing(false);
@@ -235,6 +225,7 @@ function drawPanel(panel) {
   drawLamps(panel.lights);
   if (panel.cardsLeft === undefined) return;
   drawCards(view.s, panel);
+  if (decode(view.s.core, shownAt(view.s)).device === "keyboard") drawCore(view.s);
   const keys = linesOf(view.about.keys), left = Array.isArray(panel.keysLeft) ? panel.keysLeft[1] : panel.keysLeft;
   $("keys-note").textContent = !keys.length ? "Nothing is typed ahead." : left === null ? "" : `${keys.length - left} of ${keys.length} typed lines were read` + (left ? `; the next one is ${JSON.stringify(keys[keys.length - left])}` : "");
 }

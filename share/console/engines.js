@@ -5,7 +5,7 @@ class ServerEngine {
   async fetch(path, options) {
     let reply;
     try { reply = await fetch("api/" + path, options); }
-    catch (error) { throw new Error("the console's server does not answer: start the console again, and open the address that it prints"); }
+    catch (error) { throw new Error("the console's server does not answer: start the console again, and go on here if it has the same file for --address; else open the address that it prints"); }
     if (reply.ok) return reply;
     const error = new Error((await reply.json().catch(() => ({}))).error || reply.statusText);
     error.status = reply.status;
@@ -79,7 +79,7 @@ class RecordEngine {
       typed += frames[i][2] || "";
     }
     const end = this.about.end, over = n >= end.n, next = frames[at], row = this.row(n);
-    return { id: this.about.id, n, ir: next ? next[0] : over && end.at !== null ? end.at + (end.kind === "HALT" ? 12 : 0) : null, was: at ? frames[at - 1][0] : null,
+    return { id: this.about.id, n, ir: next ? next[0] : this.record.ir, was: at ? frames[at - 1][0] : null,
       core: core.join(""), changed, typed, typedLength: typed.length, punched: outs.punched.slice(0, row[3]), punchedCount: row[3], end: over ? end : null,
       sectors: n === last ? sectors : [], used: this.about.acts.filter(a => a !== null && a <= n).length, switches: switchesOf(this.about, n) };
   }
@@ -91,9 +91,12 @@ class RecordEngine {
     return { n, core: state.core, frames: this.record.frames.slice(at, at + count).map(frame => ({ ir: frame[0], cells: [...this.cells(frame)], typed: frame[2] || "" })) };
   }
   async stop(n, stops) {
-    const places = new Set([...stops].map(s => view.addressOf.get(s)));
-    for (let i = n - this.record.first + 1; i < this.record.frames.length; i++) if (places.has(this.record.frames[i][0])) return { n: i + this.record.first, statement: view.statementAt.get(this.record.frames[i][0]) };
-    return { n: this.record.last, statement: null };
+    const places = new Set([...stops].map(s => view.addressOf.get(s))), { first, last, frames, ir } = this.record;
+    for (let i = n - first + 1; i <= frames.length; i++) {
+      const at = i < frames.length ? frames[i][0] : ir;
+      if (places.has(at)) return { n: i + first, statement: view.statementAt.get(at) };
+    }
+    return { n: last, statement: null };
   }
 }
 

@@ -2,7 +2,7 @@
 
 import re
 
-from signs import Refused, to_text
+from signs import to_text
 from states import AT, debug, differing, place, shows
 
 FRAMES_MOST = 1000      # in one answer: their commands have at most 960,000 bytes, with the largest core
@@ -52,13 +52,12 @@ class Reader:
     """Reads what a session prints that steps and shows core in turn. Text that is typed stands among its lines, and need not end a line."""
 
     def __init__(self, run, out, at):
-        self.core, self.out = run.core, out
+        self.core, self.out, self.look_at = run.core, out, run.program.look_at
         self.size = 1007 * (run.core // 1000)
         self.first = re.compile(rb"00000 [^\n]{1000}\n01000 ")
         self.shown, self.cells = b"", ""
         found = self.first.search(out, at)
-        if not found:
-            raise Refused("the debugger's lines are not as they should be")
+        self.look_at(found)
         self.at = found.start()
         self.block()
 
@@ -77,7 +76,6 @@ class Reader:
         if not found:
             return None
         behind = self.first.search(self.out, found.end())
-        if not behind:
-            raise Refused("the debugger's lines are not as they should be")
+        self.look_at(behind)
         self.at = behind.start()
         return int(found[1]), int(found[2]), self.out[found.end():self.at], self.block()

@@ -60,6 +60,7 @@ function drawListing(anew) {
   }
   if (anew || !view.shown || view.shown[0] !== from || view.shown[1] !== to) {
     const table = el("table");
+    table.setAttribute("aria-label", "statements of the listing");
     view.rows = new Map();
     for (const line of lines.slice(from, to)) {
       const row = table.insertRow(), mark = row.insertCell();

@@ -2,24 +2,33 @@
 
 import base64
 import hashlib
+import json
 import os
 
-PARTS = (("style", ("page.css",)), ("script", ("core.js", "engines.js", "cards.js", "view.js", "drawing.js", "listing.js", "running.js", "controls.js")))
+PAGES = {
+    "page": (("style", ("machine.css", "page.css")),
+             ("script", ("core.js", "engines.js", "cards.js", "view.js", "words.js", "panel.js", "typewriter.js", "drawing.js", "listing.js", "running.js",
+                         "controls.js"))),
+    "exhibit": (("style", ("machine.css", "exhibit.css")),
+                ("script", ("core.js", "engines.js", "cards.js", "view.js", "words.js", "panel.js", "typewriter.js", "visit.js"))),
+}
+WORDS = '<script type="application/json" id="words"></script>'
 TABLES = ("operations", "characters")
 RECORD = '<script type="application/json" id="record"></script>'
 
 
-def read_page(folder):
-    """The page, with its style and its script in it, and the rule: its own style and script, and nothing from elsewhere."""
+def read_page(folder, name, words):
+    """A page, with its words, its style and its script in it, and the rule: its own style and script, and nothing from elsewhere."""
     def read(name):
         with open(os.path.join(folder, name), encoding="utf-8") as file:
             return file.read()
-    page = read("page.html")
-    for name in TABLES:
-        table = f'<script type="text/plain" id="{name}">'
-        page = page.replace(table, table + "\n" + read(os.path.join(os.pardir, name + ".txt")))
+    page = read(name + ".html")
+    for table in TABLES:
+        place = f'<script type="text/plain" id="{table}">'
+        page = page.replace(place, place + "\n" + read(os.path.join(os.pardir, table + ".txt")))
+    page = page.replace(WORDS, WORDS.replace("></", ">" + json.dumps(words).replace("<", "\\u003c") + "</"))
     rules = ["default-src 'none'", "connect-src 'self'", "img-src data:", "base-uri 'none'", "form-action 'none'", "frame-ancestors 'none'"]
-    for tag, names in PARTS:
+    for tag, names in PAGES[name]:
         text = "\n" + "".join(read(name) for name in names)
         page = page.replace(f"<{tag}></{tag}>", f"<{tag}>{text}</{tag}>")
         rules.append(f"{tag}-src 'sha256-{base64.b64encode(hashlib.sha256(text.encode()).digest()).decode()}'")

@@ -28,8 +28,10 @@ async def find(run):
         done = await run.program.call("assemble", {"source": inputs.text}, ["--core", inputs.core], ["object", "listing", "report"])
         line = to_text(done.files["report"]).strip()
         if done.code != 0:
+            run.program.look_at(line)
             made["refusal"] = refusal(line, done.said)
             return made
+        run.program.look_at(line.startswith("ASSEMBLED "))
         made.update(deck=done.files["object"], listing=to_text(done.files["listing"]).split("\n")[:-1], assembled=line,
                     loading=4 * (int(line.split()[-1]) - 1) + 1)
         made["offset"] = made["loading"]
@@ -62,8 +64,7 @@ async def blank(program, core):
     done = await program.call("debug", {"source": HALT_ALONE, "commands": b"GO\n" + shows.encode()}, ["--core", core])
     lines = lines_of(done.out)
     cells = "".join(line[6:] for line in lines[1:1 + core // 1000])
-    if done.code != 12 or len(cells) != core:
-        raise Refused("the debugger's lines are not as they should be")
+    program.look_at(done.code == 12 and len(cells) == core)
     turned = [(at, bits_of(char) ^ bits_of("0")) for at, char in enumerate(cells) if char != "0"]
     clear = [f"HALT FLIP {at} {bit}" for at, bits in turned for bit in range(6) if bits >> bit & 1]
     return int(lines[0].split()[-1]), [*clear, "HALT LOAD"]

@@ -35,7 +35,6 @@ class Program:
         self.loop, self.path, self.folder, self.seconds = loop, path, folder, seconds
         self.calls = 0
         self.environment = {**os.environ, **ASKING}
-        self.tells = False      # whether the last job that has run a machine has said the console's line
         self.free = max(2, os.cpu_count() or 2)
         self.waiting = collections.deque()
 
@@ -83,6 +82,11 @@ class Program:
             return self.loop.call(line, folder, self.seconds, STREAM_MOST, self.environment)
         except OSError as error:
             raise Refused(f"the program {self.path} does not start: {error.strerror}", 503) from None
+
+    def look_at(self, is_as_ours):
+        """Refuses a program that does not answer as this console's own, for instance without the console's line."""
+        if not is_as_ours:
+            raise Refused(f"{self.path} does not answer as ibm1620 of this version does; see which program IBM1620 names", 503)
 
     def result(self, ended, folder, outputs):
         """What a call has come to, or why there is nothing of it."""

@@ -4,13 +4,13 @@ import json
 import re
 
 from answers import describe
-from asking import CODES, Standing, find_lights
 from batches import Point, lights_of, tested_by
 from frames import FRAMES_MOST, frames
 from page import RECORD
 from panels import left, lights
 from signs import Refused, bare, to_bytes
 from states import place, sectors
+from told import CODES
 
 # The instructions that may change an indicator: sums, comparisons, units, and the branches that test one.
 CHANGING = {"11", "12", "14", "17", "21", "22", "24", "27", "34", "35", "36", "37", "38", "39", "46", "47"}
@@ -58,7 +58,7 @@ async def record(run, most):
     end = await run.end()
     steps = await all_steps(run, run.first, min(end["n"], most))
     acts = [(at, line) for at, line in zip(await run.acted(), run.script) if at is not None]
-    made = {"about": await describe(run), "first": steps.first, "last": steps.last, "core": squeezed(steps.core),
+    made = {"about": await describe(run), "first": steps.first, "last": steps.last, "ir": (await place(run, steps.last)).ir, "core": squeezed(steps.core),
             "frames": [short(frame) for frame in steps.frames], "lights": await all_lights(run, steps, acts),
             "arms": await all_arms(run, steps), "outs": await all_counts(run, steps, acts),
             "sectors": sectors((await place(run, steps.last)).outputs.pack, run.inputs.pack or b"")}
@@ -84,7 +84,7 @@ async def all_steps(run, first, last):
 
 
 async def all_lights(run, steps, acts):
-    """The lights, by the counts from which on they are so: a number with a bit for each indicator, and IR-2; None where they are not known."""
+    """The lights, by the counts from which on they are so: a number with a bit for each indicator, and IR-2."""
     ir2 = (await lights(run, steps.first))["ir2"]
     at_acts, loads = {at for at, _ in acts}, {at for at, line in acts if line.endswith(" LOAD")}
     wanted, points, tested, called = {steps.first: ir2}, [], set(), False
@@ -98,22 +98,16 @@ async def all_lights(run, steps, acts):
         if digits[:2] in CHANGING or n + 1 in at_acts:
             wanted[n + 1] = ir2
     found = await lights_of(run, steps, points, acts)
-    by_count = {point.n: point for point in points}
 
     async def ask(n):
         """What no side run of many questions has said is asked for by itself."""
-        point = by_count.get(n)
-        if point and not run.program.tells:
-            begin = Standing((await run.lines_by(n))[0], False, point.ir, steps.core_at(n), len(steps.typed_by(n)))
-            lamps = await find_lights(run, n, begin)
-        else:
-            lamps = await lights(run, n)
-        return [number_of({code for code in CODES if lamps["on"].get(str(code))}), lamps["ir2"]] if lamps["on"] else None
+        lamps = await lights(run, n)
+        return [number_of({code for code in CODES if lamps["on"][str(code)]}), lamps["ir2"]]
     others = [n for n in sorted({*wanted, steps.last}) if n not in found]
     made = dict(zip(others, await in_turn(run.store.loop, (ask(n) for n in others), 16)))
     made.update((n, [number_of(on), wanted[n]]) for n, on in found.items())
     end = await lights(run, steps.last)
-    if await run.is_open(steps.last) and None not in (end["ir2"], ir2) and end["ir2"] != ir2 and not called:
+    if await run.is_open(steps.last) and end["ir2"] != ir2 and not called:
         raise Refused(f"IR-2 is {end['ir2']} at the end, and not {ir2} as was worked out")
     return thinned(made)
 
@@ -161,9 +155,6 @@ async def all_counts(run, steps, acts):
             rows.append([n + 1, cards, keys, punched + (unit == "write 04")])
             asked.append(n + 1)
     found = await now(steps.last)
-    if None in found and rows[-1][0] == steps.last:
-        rows[-1] = found
-        found = await now(steps.last - 1)
     known = next((row for row in reversed(rows) if row[0] <= found[0]), rows[0])
     if known[1:] != found[1:] or any(isinstance(value, int) and value < 0 for row in rows for value in row[1:]):
         rows = rows[:1] + await in_turn(run.store.loop, (now(n) for n in asked), 16)

@@ -6,9 +6,10 @@ async function go(n, quiet) {
   if (!s || asked !== view.asked) return;
   show(s);
   if (s.end) sayEnd();
-  else if (!quiet) say("");
+  else if (!quiet || recordEnds(s)) say(recordEnds(s));
   const typed = old && s.n === old.n + 1 && s.typedLength > old.typedLength ? "typed: " + s.typed.slice(old.typedLength - s.typedLength) + ". " : "";
   $("live").textContent = `step ${s.n}. ${typed}${$("next").textContent}`;
+  typewriter.typing.then(() => { if (!view.playing) typewriter.read(true); });
   const lights = await panel;
   if (!lights || asked !== view.asked) return;
   view.panel = lights;
@@ -22,14 +23,25 @@ function show(s) {
 }
 
 function sayEnd() {
-  const end = view.s.end, hint = end.kind === "HALT" ? engine.live ? "START or SIE goes on behind the halt." : "" : engine.live || end.kind === "CHECK" ? HINTS[end.kind] : "";
+  const end = view.s.end, hint = end.kind === "HALT" ? !engine.live ? "" : isFinal() ? "The program has ended: behind this halt no instruction stands. First goes back to the beginning." : "START or SIE goes on behind the halt." : engine.live || end.kind === "CHECK" ? HINTS[end.kind] : "";
   say(`${end.line}. ${end.about ? end.about + " " : ""}${end.said.length ? end.said.join("; ") + ". " : ""}${hint}`, end.kind === "CHECK" || end.kind === "JAM");
   if (end.kind === "NEED KEYS" && engine.live) $("keyline").focus();
   if (end.kind === "NEED CARDS" && engine.live) $("cardline").focus();
 }
 
-// At a halt the Start key goes on, and is a line of the script.
-async function pressStart() { return !(view.s.end && view.s.end.kind === "HALT" && engine.live) || act("START"); }
+// Whether the program has ended: it is halted, and behind the halt stands none of its instructions.
+function isFinal() { return view.s.end && view.s.end.kind === "HALT" && view.about.kind === "source" && !view.statementAt.has(view.s.ir); }
+
+// At a halt the Start key goes on, and is a line of the script. At the program's end, where it would run on into data, it has to be pressed twice.
+async function pressStart() {
+  if (!(view.s.end && view.s.end.kind === "HALT" && engine.live)) return true;
+  if (isFinal() && view.warned !== view.n) {
+    view.warned = view.n;
+    say("Behind this halt no instruction stands: the machine would take data for one. START once more goes on all the same.");
+    return false;
+  }
+  return act("START");
+}
 
 async function step() {
   byHand();
@@ -101,6 +113,7 @@ async function play(pace) {
       if (buffer.frames.length) s.ir = buffer.frames[0].ir;
     }
     draw(true);
+    if (typewriter.pace) { await typewriter.typing; if (!goesOn()) return; }
     if (!busy) {
       busy = true;
       engine.panel(s.n, "lights").then(found => { busy = false; if (goesOn()) drawLamps(found.lights, view.n === found.n ? 0 : found.n); }, () => { busy = false; });
@@ -112,10 +125,11 @@ async function play(pace) {
 
 // The machine some steps on, at most to a breakpoint; the last of the frames is looked at for its address alone.
 function along(from, frames, count) {
-  const s = Object.assign({}, from, { changed: [], end: null }), core = [...from.core];
+  const s = Object.assign({}, from, { changed: [], pieces: [], end: null }), core = [...from.core];
   let passed = 0, stop = null;
   while (passed < count && passed < frames.length && !stop) {
     const frame = frames[passed++], next = frames[passed];
+    if (frame.typed) s.pieces.push([frame.typed, typesDigits(core.slice(frame.ir, frame.ir + 12))]);
     for (const [a, c] of frame.cells) { s.changed.push([a, core[a]]); core[a] = c; }
     s.typed += frame.typed;
     s.typedLength += frame.typed.length;
@@ -150,14 +164,24 @@ async function act(action, line) {
 }
 
 // A machine that ran until it wanted a card or a line runs on once it has it.
-async function press(action, line, word) {
-  const goesOn = view.resume && view.s.end && view.s.end.kind.startsWith("NEED") && line !== undefined;
+async function press(action, line, told) {
+  const { n } = view, isWanted = view.s.end && view.s.end.kind === "NEED KEYS", goesOn = view.resume && view.s.end && view.s.end.kind.startsWith("NEED") && line !== undefined;
   if (!await act(action, line)) return;
+  if (action === "KEYS" && isWanted) typewriter.key(line, n);
   const differs = view.about.past === false;
   await go(view.n, true);
   if (differs) say("Put in here, it has changed what came before this step too: an earlier card was the last one, and is not now.", true);
   else if (goesOn) await start();
-  else if (!view.s.end) say(word || action);
+  else if (!view.s.end) say(told || action);
+}
+
+// What there is to say of a run that has no page of its own.
+function aboutRun({ kind, text, deck, data, keys, script, loading, end, command }) {
+  const comment = kind === "source" ? linesOf(text).filter(line => line[5] === "*").map(line => line.slice(6)).join("\n") + "\n\n" : "";
+  const count = (many, one, more) => `${thousands(many)} ${many === 1 ? one : more}`;
+  return comment.trimStart() + `${kind === "source" ? `A source of ${count(linesOf(text).length, "line", "lines")}` : "A deck"}, ${count(deck.length, "card", "cards")} to load` +
+    (loading ? ` in ${count(loading, "step", "steps")}` : "") + `; ${count(linesOf(data).length, "data card", "data cards")}, ${count(linesOf(keys).length, "line", "lines")} of the keyboard, ` +
+    `${count(script.length, "line", "lines")} of the operator's script.\nThe run ends by ${end.line}.\nReplay: ${command}\n`;
 }
 
 async function open(about, name) {
@@ -165,13 +189,14 @@ async function open(about, name) {
   const old = view.about, made = await guard(() => engine.inputs(about));
   if (!made) { engine.about = old; return; }
   if (made.refusal) { refused(made, about); engine.about = old || made; return; }
-  Object.assign(view, { about: made, history: [], scriptEdited: false, paper: "", s: null, panel: null, name: name || "", cells: 0, cursor: null });
+  Object.assign(view, { about: made, history: [], scriptEdited: false, s: null, panel: null, warned: null, name: name || "", cells: 0, cursor: null });
   view.stops.clear();
   firstRow = 0;
   $("examples").value = [...$("examples").options].some(option => option.value === name) ? name : "";
   $("refusal").hidden = true;
-  $("paper").textContent = "";
-  $("about").textContent = about.about || "";
+  typewriter.clear();
+  view.page = about.about || "";
+  $("about").textContent = view.page || aboutRun(made);
   showInputs();
   newListing();
   tab("listing");

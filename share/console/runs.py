@@ -79,7 +79,7 @@ class Run:
             words += ["--typed", "/dev/null"]
         done = await self.program.call("load", inputs, words, [*outputs, "report"])
         found = self.ending(done)
-        self.program.tells = done.told is not None
+        self.program.look_at(done.told)
         return done, found
 
     def ending(self, done):
@@ -102,7 +102,7 @@ class Run:
         return (await self.ended())[0]
 
     async def ended(self):
-        """The same, and the console's line there, or None."""
+        """The same, and the console's line there."""
         return await self.store.once(("end", self.id), self.find_end)
 
     async def find_end(self):
@@ -172,7 +172,7 @@ class Run:
         return (await self.under(lines, n))[0]
 
     async def under(self, lines, n):
-        """The same, and the console's line there, or None."""
+        """The same, and the console's line there."""
         async def find():
             done, found = await self.load(lines, n)
             return found, done.told
@@ -214,19 +214,6 @@ class Run:
         used = len((await self.lines_by(n))[0])
         line = f"HALT {action}" if await self.is_halted(n) and not action.startswith("FLIP") else f"AT {n} {action}"
         return self.script[:used] + (line,) + self.script[used:]
-
-    def switches(self, n, acts):
-        """Only the operator turns a switch: so they stand as the lines that have acted left them."""
-        found = {"1": False, "2": False, "3": False, "4": False, "overflow": False, "io": False}
-        for line, at in zip(self.script, acts):
-            if at is None or at > n:
-                continue
-            words = line.split()
-            if "SWITCH" in words:
-                found[words[-2]] = words[-1] == "ON"
-            elif words[-1] in ("STOP", "PROGRAM"):
-                found[words[-2].lower()] = words[-1] == "STOP"
-        return found
 
     def fed(self, unit):
         """The cards of deck and data, or the lines of the keyboard."""

@@ -3,10 +3,9 @@
 import collections
 import re
 
-from signs import Refused, bare, joined, lines_of, to_text
+from signs import Refused, joined, lines_of, to_text
 
 AT = re.compile(rb"AT (\d{5,}) STEPS (\d+)\n")
-WRITING = ("34", "35", "38", "39")      # the instructions that type, punch or write a sector, if any does
 BACK_MOST = 1000                        # places that a session goes back
 
 Place = collections.namedtuple("Place", "ir core was before outputs told")
@@ -21,8 +20,7 @@ def block(run, data, at):
     """Core as the lines of `shows` have it that stand from here on, and the place behind them."""
     cells = []
     for address in range(0, run.core, 1000):
-        if data[at:at + 6] != b"%05d " % address:
-            raise Refused("the debugger's lines are not as they should be")
+        run.program.look_at(data[at:at + 6] == b"%05d " % address)
         cells.append(data[at + 6:at + 1006])
         at += 1007
     return b"".join(cells).decode("latin-1"), at
@@ -39,20 +37,14 @@ async def debug(run, commands, lines, limit, words=(), outputs=()):
     done = await run.program.call("debug", inputs, ["--limit", limit, "--core", run.core, *words], outputs)
     if done.code != 12:
         raise Refused("the session was refused: " + to_text(done.out[-200:]).strip() + "; ".join(done.said))
-    run.program.tells = done.told is not None
+    run.program.look_at(done.told)
     # Behind a source of one halt the cards of a deck are data cards, and those of the source are none of the run's.
-    return done._replace(told=done.told._replace(deck=0)) if done.told and run.kind == "deck" else done
+    return done._replace(told=done.told._replace(deck=0)) if run.kind == "deck" else done
 
 
 async def place(run, n):
     """IR, core, outputs and the console's line at count n, and IR and core one step before, which are None at the first place."""
-    lines, here = await run.lines_by(n)
-    is_last = await is_end(run, n)
-
-    async def find():
-        found = await find_told_place(run, n, lines, here, is_last) if run.program.tells else None
-        return found or await find_place(run, n, lines, here, is_last)
-    return await run.store.once(await name_of_place(run, n), find, weight)
+    return await run.store.once(await name_of_place(run, n), lambda: find_place(run, n), weight)
 
 
 async def is_end(run, n):
@@ -71,20 +63,18 @@ def weight(found):
     return 2 * len(found.core) + len(found.outputs.typed) + len(found.outputs.pack) + 100 * len(found.outputs.punched)
 
 
-async def find_told_place(run, n, lines, here, is_last):
-    """The place by a session that ends there, so that the console's line and the outputs are those at count n; None where that line does not come."""
-    count = n + run.offset
-    show = shows(run.core)
-    outputs = ("typed", "punched", "pack")
+async def find_place(run, n):
+    """The place by a session that ends there, so that the console's line and the outputs are those at count n."""
+    lines, here = await run.lines_by(n)
+    count, is_last, show = n + run.offset, await is_end(run, n), shows(run.core)
     commands = "GO\n" + show + (f"BACK {1 + here}\n" + show + "GO\n" if n > run.first and here < BACK_MOST else "")
-    done = await debug(run, commands, lines, count + is_last, (), outputs)
-    if not done.told:
-        return None
+    done = await debug(run, commands, lines, count + is_last, (), ("typed", "punched", "pack"))
     line, _, _ = done.out.partition(b"\n")
     if not is_last and line != b"LIMIT STEPS %d" % count:
         raise Refused(f"the session came to {to_text(line)} and not to count {count}")
     core, at = block(run, done.out, len(line) + 1)
-    return Place(done.told.ir, core, *place_before(run, done.out, at, count), outputs_of(done), done.told)
+    outputs = Outputs(to_text(done.files["typed"]), lines_of(done.files["punched"]), done.files["pack"])
+    return Place(done.told.ir, core, *place_before(run, done.out, at, count), outputs, done.told)
 
 
 def place_before(run, out, at, count):
@@ -93,42 +83,8 @@ def place_before(run, out, at, count):
     return (int(found[1]), block(run, out, found.end())[0]) if found and int(found[2]) == count - 1 else (None, None)
 
 
-def outputs_of(done):
-    return Outputs(to_text(done.files["typed"]), lines_of(done.files["punched"]), done.files["pack"])
-
-
-async def find_place(run, n, lines, here, is_last):
-    """The place where the program does not say the console's line: IR is that of a line of the session, which makes a step more for it."""
-    count = n + run.offset
-    show = shows(run.core)
-    commands = "GO\n" + ("" if is_last else "BACK 1\n") + show + (f"BACK {1 + here}\n" + show if n > run.first and here < BACK_MOST else "")
-    outputs = ("typed", "punched", "pack")
-    done = await debug(run, commands, lines, count + 1, (), outputs)
-    out = done.out
-    at = out.index(b"\n") + 1
-    if is_last:
-        ir = await next_at_end(run)
-    else:
-        found = AT.match(out, at)
-        if not found or int(found[2]) != count:
-            raise Refused(f"the session came to {to_text(out[at:at + 40])} and not to count {count}")
-        ir, at = int(found[1]), found.end()
-    core, at = block(run, out, at)
-    was, before = place_before(run, out, at, count)
-    # The session has made a step more, so its outputs are those at n only where that step writes nothing.
-    if not is_last and (ir + 2 > run.core or bare(core[ir:ir + 2]) in WRITING or "?" in core[ir:ir + 2]):
-        done, _ = await run.load(lines, n, outputs)
-    return Place(ir, core, was, before, outputs_of(done), None)
-
-
-async def next_at_end(run):
-    """IR behind the end of a run: behind a halt, else at the instruction that stopped, or wants a card or a line."""
-    end = await run.end()
-    return None if end["at"] is None else end["at"] + 12 if end["kind"] == "HALT" else end["at"]
-
-
 async def state(run, n):
-    """What is shown of the machine at count n, but for what has to be asked of it."""
+    """What is shown of the machine at count n, except its panel."""
     n = await run.clamp(n)
     end, acts, found = await run.end(), await run.acted(), await place(run, n)
     changed = [[at, found.before[at]] for at in differing(found.before, found.core)] if found.before else []
@@ -136,7 +92,7 @@ async def state(run, n):
     return {"id": run.id, "n": n, "ir": found.ir, "was": found.was, "core": found.core, "changed": changed, "typed": typed[-20000:],
             "typedLength": len(typed), "punched": punched[-200:], "punchedCount": len(punched), "end": end if n >= end["n"] else None,
             "sectors": sectors(found.outputs.pack, run.inputs.pack or b""), "used": sum(at is not None and at <= n for at in acts),
-            "switches": switches_of(found.told) if found.told else run.switches(n, acts)}
+            "switches": switches_of(found.told)}
 
 
 def switches_of(told):

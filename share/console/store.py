@@ -12,7 +12,7 @@ from signs import Refused
 SOURCE_MOST, SCRIPT_MOST, PACK_MOST = 4_000_000, 1_000_000, 8_000_000
 LIMIT_MOST = 100_000_000
 KEPT_MOST = 64_000_000      # bytes, about, of what is kept
-RUNS_MOST, BASES_MOST, HINTS_MOST = 40, 20, 400
+RUNS_MOST, BASES_MOST = 40, 20
 
 
 class Store:
@@ -23,7 +23,6 @@ class Store:
         self.runs, self.bases = collections.OrderedDict(), collections.OrderedDict()
         self.kept, self.size = collections.OrderedDict(), 0
         self.busy = {}
-        self.ir2, self.arms, self.none_left = Hints(), Hints(), Hints()
 
     async def once(self, key, find, weight=200, is_kept=True):
         """What is kept by this name; else it is found by one of those who ask, and the others wait."""
@@ -97,6 +96,8 @@ class Store:
         return self.find(run.id)
 
     def find(self, name):
+        if not isinstance(name, str):
+            raise Refused("id is not a text")
         if name not in self.runs or not self.runs[name].refusal and self.runs[name].base not in self.bases:
             raise Refused("unknown run: send its inputs again", 410)
         self.runs.move_to_end(name)
@@ -104,13 +105,3 @@ class Store:
         if not run.refusal:
             self.bases.move_to_end(run.base)
         return run
-
-
-class Hints(dict):
-    """What is likely so, by its name; the last ones stay."""
-
-    def __setitem__(self, name, value):
-        self.pop(name, None)
-        super().__setitem__(name, value)
-        while len(self) > HINTS_MOST:
-            del self[next(iter(self))]

@@ -8,6 +8,7 @@ LINE = re.compile(r"CONSOLE IR (\d{5,}) CELLS (?:\S{12}|-) IR2 (\d{5,}) ON ([\d,
                   r"ARMS ([\d,]+) DECK (\d+) DATA (\d+) KEYS (\d+)"
                   r"(?: PART (?:(INSTRUCTION|P|Q) AT (\d{5,})|(ACTION) AT (\d{5,}|-) P (\d{5,}) Q (\d{5,}|-)))?")
 STANDS = re.compile(r"statement \d+ stands at IR:")     # in front of the line, with the statement itself behind it
+CODES = (6, 7, 9, 11, 12, 14, 16, 17, 36, 37, 38)        # the indicators that have a light
 UNITS = {"P": 6, "Q": 11}       # where the units position of an instruction's P and Q stands
 
 Told = collections.namedtuple("Told", "ir ir2 on switches stops arms deck data keys part")

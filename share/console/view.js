@@ -1,7 +1,7 @@
 // What the page shows now: the step, the machine there, and its lights.
 
 const view = { n: 0, s: null, panel: null, about: null, name: "", stops: new Set(), statementAt: new Map(), addressOf: new Map(), lines: [], fields: [],
-  playing: false, resume: false, asked: 0, history: [], paper: "", cells: 0, scriptEdited: false };
+  playing: false, resume: false, asked: 0, history: [], page: "", cells: 0, scriptEdited: false };
 let engine;
 window.view = view;     // for whoever looks at the page from outside, as its tests do
 
