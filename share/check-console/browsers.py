@@ -57,6 +57,10 @@ class Browser:
     def text(self, control):
         return self.js("return document.querySelector(arguments[0]).textContent", self.selector(control))
 
+    def paper(self):
+        """What is on the paper of the typewriter."""
+        return self.js("return document.querySelector('.sheet').innerText.trim()")
+
     def choose(self, control, value):
         self.js("const s = document.querySelector(arguments[0]); s.value = arguments[1]; s.dispatchEvent(new Event('change'))",
                 self.selector(control), value)

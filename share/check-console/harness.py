@@ -1,5 +1,6 @@
 """What all checks of the console use: counting, a console that runs, requests to it, and the program itself."""
 
+import atexit
 import http.client
 import json
 import os
@@ -56,6 +57,7 @@ class Console:
         environment = dict(os.environ, IBM1620=program_path or program(), TMPDIR=self.temporary)
         self.child = subprocess.Popen([CONSOLE, "--port", "0", *map(str, words)], stdin=subprocess.DEVNULL, stdout=subprocess.PIPE,
                                       stderr=subprocess.STDOUT, env=environment)
+        atexit.register(self.child.kill)        # does nothing to one that has ended
         line = self.child.stdout.readline().decode()
         found = re.search(r"http://127\.0\.0\.1:(\d+)/(\w+)/", line)
         if not found:

@@ -11,6 +11,7 @@ import time
 import zipfile
 from pathlib import Path
 
+import visiting
 from browsers import Chromium, Firefox, Slip
 from harness import EXAMPLES, LOOP, TOP, Console, call, is_left_clean, run_console
 
@@ -22,12 +23,14 @@ def read(*path):
 def check_chromium(checks, shots):
     console = Console()
     try:
-        for part in (steps, breakpoints, cards, dialogue, stops, sources, decks, own_table, disk, long_runs, by_keyboard, looks, drawn_cards, two_pages,
+        for part in (steps, breakpoints, cards, dialogue, stops, sources, decks, read_marks, own_table, disk, long_runs, by_keyboard, looks, drawn_cards, two_pages,
                      safety):
             part_in(checks, console, part, shots)
     finally:
         checks.want("nothing is left of the console", is_left_clean(console), True)
+    visiting.check(checks, CONTRAST)
     records(checks, shots)
+    long_record(checks)
 
 
 def part_in(checks, console, part, shots):
@@ -52,16 +55,18 @@ def steps(checks, _, b, shots):
     for n in (1, 2):
         b.click("step")
         b.at(n)
-    checks.want("42 is typed, and stands on the paper", (b.view("s.typed"), b.text("paper")), ("42", "42"))
+    checks.want("42 is typed, and stands on the paper", (b.view("s.typed"), b.paper()), ("42", "42"))
     b.click("step")
     b.at(3)
     b.click("step")
     b.at(4)
-    checks.want("at the halt the lights show the halt", (b.text("lamp"), b.text("op-name"), b.text("next").startswith("HALT 00438 STEPS 4"), b.text("tr[aria-current=step]")[:1] or "", b.view("s.ir")),
-                lambda found: found[:3] == ("HALT", "H, halt", True) and found[4] == 450)
+    checks.want("at the halt the lights show the halt", (b.text("lamp"), b.text(".now"), b.text("next").startswith("HALT 00438 STEPS 4"), b.view("s.ir")),
+                ("HALT", "00438  Hhalt", True, 450))
     b.click("back")
     b.at(3)
     checks.want("back", b.text("lamp"), "MANUAL")
+    b.go(1)
+    checks.want("a step back moves the paper back", b.paper(), "")
     b.click("first")
     b.at(0)
     b.click("first")
@@ -238,6 +243,14 @@ def decks(checks, _, b, shots):
     checks.want("the sum", (b.view("s.typed"), b.text("lamp")), ("0523\n", "HALT"))
 
 
+def read_marks(checks, _, b, shots):
+    """A read from the keyboard marks the cells that it will write."""
+    b.open("source", "     START RATY501\n           RNTY600\n           H\n           DENDSTART\n", "", "ABC\n12\n")
+    for n, wanted in ((0, [500, 505]), (1, [600, 601])):
+        b.go(n)
+        checks.want(f"what the read at step {n} will write", b.view("withLine(decode(s.core, s.ir), s).fields.p"), wanted)
+
+
 def own_table(checks, _, b, shots):
     """A program that changes its add table: by examples/programs/table, 3 + 4 and 4 + 3 come to another digit."""
     b.example("programs/table")
@@ -276,6 +289,13 @@ def by_keyboard(checks, _, b, shots):
                 "e.getAttribute('aria-label') || e.title || e.labels && e.labels.length)).map(e => e.outerHTML)"), [])
     b.js("document.activeElement.blur()")
     b.tap("s")
+    checks.want("no key acts where the machine has not the focus", b.view("s.n"), 0)
+    b.js("document.getElementById('console').focus()")
+    b.js("document.getElementById('letters').checked = false")
+    b.tap("s")
+    checks.want("no key acts if the user has turned them off", b.view("s.n"), 0)
+    b.js("document.getElementById('letters').checked = true")
+    b.tap("s")
     b.at(1)
     checks.want("the step is said",
                 (b.text("live").startswith("step 1. Next: 00414"), b.js("return document.getElementById('live').getAttribute('aria-live')")), (True, "polite"))
@@ -295,7 +315,7 @@ def by_keyboard(checks, _, b, shots):
     b.js("document.getElementById('listing').focus()")
     b.tap("down", "enter")
     checks.want("a breakpoint by the arrow keys", b.view("[...view.stops]"), [])
-    b.tap("k") if b.js("document.activeElement.blur()") is None else None
+    b.tap("k") if b.js("document.getElementById('console').focus()") is None else None
     checks.want("k goes to the keyboard", b.js("return document.activeElement.id"), "keyline")
     b.tap("s")
     checks.want("in a field a key is a letter", (b.js("return document.getElementById('keyline').value"), b.view("s.n")), ("s", 0))
@@ -304,6 +324,9 @@ def by_keyboard(checks, _, b, shots):
     checks.want("the tabs", b.js("return document.activeElement.id"), "tab-source")
     reached = b.js("return [...document.querySelectorAll('button,input,select,textarea,[tabindex=\"0\"]')].filter(e => e.offsetParent && !e.disabled && e.tabIndex < 0 && !e.classList.contains('break') && e.getAttribute('role') !== 'tab').map(e => e.id)")
     checks.want("each control is reached by Tab", reached, [])
+    checks.want("breakpoints are large enough, and each table has a name",
+                (b.js("return [...document.querySelectorAll('.break')].filter(e => e.offsetParent && (e.offsetWidth < 24 || e.offsetHeight < 24)).length"),
+                 b.js("return [...document.querySelectorAll('table')].filter(e => !e.getAttribute('aria-label')).length")), (0, 0))
 
 
 CONTRAST = """
@@ -337,7 +360,7 @@ def looks(checks, console, _, shots):
                         b.js("return document.documentElement.scrollWidth <= document.documentElement.clientWidth + 1"), True)
             checks.want(f"{what}: contrast", b.js(CONTRAST), [])
             checks.want(f"{what}: nothing moves by itself where that is not wanted",
-                        b.js("return [...document.querySelectorAll('.lamp')].every(e => getComputedStyle(e).transitionDuration === '0s')"), True)
+                        b.js("return [...document.querySelectorAll('.glass, .sheet, .bat')].every(e => getComputedStyle(e).transitionDuration === '0s')"), True)
             checks.want(f"{what}: dark is dark", b.js("return matchMedia('(prefers-color-scheme: dark)').matches"), dark)
             if name:
                 b.shot(os.path.join(shots, name))
@@ -431,6 +454,40 @@ def records(checks, shots):
                 checks.want(f"a record of {name}", str(why), "no slip")
             finally:
                 b.close()
+
+
+def long_record(checks):
+    """A record that ends before its run: breakpoints at its last place, why it ends there, and what About says."""
+    with tempfile.TemporaryDirectory() as folder:
+        source, out = Path(folder, "loop.txt"), Path(folder, "record.html")
+        source.write_text(LOOP)
+        run_console("--source", source, "--record", out, seconds=600)
+        b = Chromium()
+        try:
+            b.get("file://" + str(out))
+            b.at(0)
+            last = b.js("return engine.last()")
+            b.choose("pace", "0")
+            b.go(last)
+            checks.want("the last place of a cut record has its instruction, and the page says why the record ends",
+                        (last, "?" in b.js("return document.querySelector('.now').textContent"), b.text("say").startswith("The record ends here")), (10000, False, True))
+            number = b.js("return view.statementAt.get(view.s.ir)")
+            b.go(0)
+            b.js(f"toggleStop({number})")
+            for _ in range(2):
+                before = b.view("s.n")
+                b.click("start")
+                b.wait(f"s.n > {before} && !view.playing && view.panel")
+                checks.want("a breakpoint of a long record", b.js("return view.statementAt.get(view.s.ir)"), number)
+            b.go(last - 1)
+            b.click("start")
+            b.at(last)
+            checks.want("a breakpoint at its last place", b.text("say").startswith(f"breakpoint at statement {number}"), True)
+            checks.want("About", b.text("about"), lambda text: "The run ends by LIMIT" in text and "Replay: ibm1620 run" in text)
+        except Slip as why:
+            checks.want("a long record", str(why), "no slip")
+        finally:
+            b.close()
 
 
 def check_firefox(checks):

@@ -49,9 +49,18 @@ def check(checks, names=("programs/dialogue", "one-card"), every=9):
             checks.want(f"a record of {name}", (done.returncode, done.stderr), (0, ""))
             if not done.returncode:
                 same(checks, console, name, data_of(out)[0], every)
+        cut(checks, console, out)
         failures(checks, folder)
         sizes(checks, folder)
     checks.want("nothing is left", is_left_clean(console), True)
+
+
+def cut(checks, console, out):
+    """A record that ends before its run knows where the next instruction stands."""
+    done = run_console("--source", EXAMPLES / "programs" / "squares" / "source.txt", "--record", out, "--steps", 5)
+    record, _ = data_of(out)
+    run = console.make("source", record["about"]["text"])
+    checks.want("a record of the first steps, and IR at its last", (done.returncode, record["last"], record["ir"]), (0, 5, console.state(run, 5)["ir"]))
 
 
 def same(checks, console, name, record, every):

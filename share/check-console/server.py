@@ -11,6 +11,7 @@ import socket
 import subprocess
 import tempfile
 import zipfile
+from contextlib import suppress
 from pathlib import Path
 
 from harness import CONSOLE, EXAMPLES, LOOP, Console, call, is_left_clean, program, run_console
@@ -322,10 +323,18 @@ def saves(checks, console):
         checks.want("and replayed", done.stdout.decode(), state["typed"] + run["end"]["line"] + "\n")
 
 
+def first_line():
+    """The first line of a console that is started without --port."""
+    with subprocess.Popen([CONSOLE], stdin=subprocess.DEVNULL, stdout=subprocess.PIPE, text=True, env=dict(os.environ, IBM1620=program())) as child:
+        line = child.stdout.readline()
+        child.send_signal(signal.SIGTERM)
+    return line
+
+
 def words(checks):
     """The words, and what fails at the start."""
     usage = run_console("--help")
-    checks.want("--help", (usage.returncode, usage.stderr.startswith("usage: console ["), usage.stdout), (2, True, ""))
+    checks.want("--help", (usage.returncode, usage.stdout.startswith("usage: console ["), usage.stderr), (0, True, ""))
     one_card = EXAMPLES / "one-card" / "deck.txt"
     for given in (["--deck"], ["--deck", one_card, "--deck", one_card], ["--deck", one_card, "--source", one_card], ["--data", one_card], ["--steps", "3"],
                   ["--port", "x"], ["--port", "70000"], ["--deck", one_card, "--core", "30000"], ["--deck", one_card, "--limit", "0"], ["file"],
@@ -342,6 +351,11 @@ def words(checks):
         busy.listen()
         done = run_console("--port", busy.getsockname()[1])
         checks.want("a port in use", (done.returncode, "--port can name another one" in done.stderr), (7, True))
+    with socket.socket() as busy:
+        with suppress(OSError):     # else another one has the port already
+            busy.bind(("127.0.0.1", 1620))
+            busy.listen()
+        checks.want("no --port, and 1620 in use", re.fullmatch(r"The console is at http://127\.0\.0\.1:(?!1620/)\d+/\w+/\n", first_line()) is not None, True)
     done = run_console("--port", "0", env=dict(os.environ, IBM1620=program(), TMPDIR="/nowhere"))
     checks.want("no folder for its files", (done.returncode, "TMPDIR" in done.stderr), (7, True))
     done = subprocess.run(f"exec {CONSOLE} --port 0 >&-", shell=True, capture_output=True, text=True, env=dict(os.environ, IBM1620=program()),
