@@ -47,14 +47,22 @@ make_work() {
 # Answers the words --help, -h or --version alone, and COMMAND --help or -h, with code 0, and returns for all other words. The text is the one that the
 # program prints for wrong words, without its first two lines: bin/operation-places compares them. An empty line ends each part of it.
 answer() {
-    case $#$1 in
-        1--version) say_version ;;
-        1--help | 1-h) part=p ;;
-        2*[!a-z]*) return ;;
-        *) part="/^ibm1620 $1 /,/^\$/p; /^Options /,\$p" ;;
+    case $#${2-} in
+        1)
+            case $1 in
+                --version) say_version ;;
+                --help | -h) part=p ;;
+                *) return ;;
+            esac
+            ;;
+        2--help | 2-h)
+            case $1 in *[!a-z]*) return ;; esac
+            part="/^ibm1620 $1 /,/^\$/p; /^Options /,\$p"
+            ;;
+        *) return ;;
     esac
     text=$(sed -n "$part" "$share/usage.txt") || exit 126
-    case $#$2$text in
-        1* | 2--help"ibm1620 $1 "* | 2-h"ibm1620 $1 "*) say "$text" ;;
+    case $#$text in
+        1* | 2"ibm1620 $1 "*) say "$text" ;;
     esac
 }

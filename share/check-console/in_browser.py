@@ -28,7 +28,7 @@ def check_chromium(checks, shots):
             part_in(checks, console, part, shots)
     finally:
         checks.want("nothing is left of the console", is_left_clean(console), True)
-    visiting.check(checks, CONTRAST)
+    visiting.check(checks, CONTRAST, shots)
     records(checks, shots)
     long_record(checks)
 

@@ -1,5 +1,6 @@
 """The exhibit in a browser: what visitors do, what stands there for them, and what becomes of it when they go."""
 
+import os
 import signal
 import socket
 import tempfile
@@ -19,11 +20,11 @@ SEEN = """return ['say', 'panel', 'paper', 'keyline', 'start', 'release', 'reset
 LAMPS = "return Math.min(...[...document.querySelectorAll('.registers circle')].map(e => e.getBoundingClientRect().width)) > 9"
 
 
-def check(checks, contrast):
+def check(checks, contrast, shots):
     console = Console("--exhibit", "--idle", "300", "--pace", "200")
     try:
         for what, width, height in SIZES:
-            in_size(checks, console, what, width, height)
+            in_size(checks, console, what, width, height, shots)
         for what, dark in (("light", False), ("dark", True)):
             looks(checks, console, what, dark, contrast)
         guided(checks, console)
@@ -67,7 +68,7 @@ def browser_at(console, width=1366, height=768, dark=False):
     return b
 
 
-def in_size(checks, console, what, width, height):
+def in_size(checks, console, what, width, height, shots):
     b = browser_at(console, width, height)
     try:
         b.click("attract")
@@ -78,6 +79,11 @@ def in_size(checks, console, what, width, height):
         checks.want(f"{what}: panel, typewriter and keys stand in one screen", b.js(SEEN), [])
         checks.want(f"{what}: what is touched is large enough, and so are the lamps", (b.js(SMALL), b.js(LAMPS)), ([], True))
         checks.want(f"{what}: nothing stands out to the right", b.js("return document.documentElement.scrollWidth <= innerWidth"), True)
+        if shots:
+            b.click("start")
+            b.wait(ENDS.format("NEED KEYS"))
+            b.type("keyline", "ada")
+            b.shot(os.path.join(shots, f"exhibit-{width}.png"))
     except Slip as why:
         checks.want(what, str(why), "no slip")
     finally:

@@ -142,7 +142,7 @@ def of_images(name, data):
         holes = frozenset(place for place in range(12) if data[at + place // 6] & 32 >> place % 6)
         if holes not in characters:
             rows = " ".join(ROWS[place] for place in sorted(holes))
-            wrong.append(f"card {at // 160 + 1}, column {at // 2 % COLUMNS + 1}: no character has the holes {rows}; there stands a ? now")
+            wrong.append(f"card {at // 160 + 1}, column {at // 2 % COLUMNS + 1}: no character has the holes {rows}; it is shown as ?")
         text += characters.get(holes, "?")
     return [text[at:at + COLUMNS].rstrip(" ") for at in range(0, len(text), COLUMNS)], wrong
 

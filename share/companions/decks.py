@@ -60,7 +60,7 @@ class Deck:
     def follow(self):
         """Follows the deck, and raises the first slip."""
         if self.cards and not self.cards[0].strip(" "):
-            raise Slip("the first card is blank, and the machine begins with what stands on it: zeros, which are no operation")
+            raise Slip("the first card is blank, and the machine begins with its zeros, which are no operation")
         if not self.cards:
             return
         self.read_card(0)
@@ -143,7 +143,7 @@ class Deck:
                        "or is a halt, 48, missing?")
         if code in (WN, WA) and unit == 1 and not self.cell(at + 6).is_flagged and p < CORE:
             if not any(not self.cell(place).is_known or self.cell(place).is_mark for place in range(p, CORE)):
-                raise Slip(f"{code} at {at:05d} types what stands from {p:05d} on, and no record mark stands behind: "
+                raise Slip(f"{code} at {at:05d} types from {p:05d} on, and no record mark follows: "
                            "all that is left of core is typed")
             if code == WA:
                 self.look_at_pairs(p)
@@ -189,7 +189,7 @@ class Deck:
                 raise Slip(f"{cell.where} has -, which is read as ], a 0 with a flag: -{digits} is ]{negative(digits)}")
             if not cell.is_known or place < units and cell.is_flagged:
                 return
-        raise Slip(f"{code} at {self.at:05d} takes the number whose last digit is at {units:05d}, and no flag stands to the left of it: "
+        raise Slip(f"{code} at {self.at:05d} takes the number whose last digit is at {units:05d}, and no flag is to the left of it: "
                    "it would run on down to 00000")
 
 

@@ -22,7 +22,7 @@ def look_at_refused(text, report, told):
     known = re.fullmatch("[A-Z][A-Z0-9]*", refused.operation) and re.fullmatch("[ 0-9]*", refused.text[:5]) and refused.text[11] != " "
     if rule == "UnknownOperation" and known and refused.operation not in NOT_BUILT:
         if not end:
-            yield told(statements[-1], "the source has no DEND, which is its last statement: DEND, and the label of the first instruction behind it")
+            yield told(statements[-1], "the source has no DEND, which is its last statement: DEND, and after it the label of the first instruction")
         yield told(refused, f"{refused.operation} is none of the operations:")
         yield from rows_of_operations()
 
@@ -46,7 +46,7 @@ def look_for_label(plain, end, refused, part, told):
     late = next((it for it in plain if end and it.number > end.number and it.label == names[0]), None)
     other = next((symbol for symbol in labels if symbol[1] == names[0].split("$")[-1]), None)
     if late:
-        yield told(late, f"{names[0]} is the label of this statement, which stands behind the DEND of statement {end.number}: DEND is the last one")
+        yield told(late, f"{names[0]} is the label of this statement, which comes after the DEND of statement {end.number}: DEND is the last one")
     elif other:
         name = "$".join(other)
         yield told(labels[other], f"{other[1]} is the label of this statement, and {names[0]} is asked for under another HEAD: write {name}")

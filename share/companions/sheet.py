@@ -58,10 +58,10 @@ def placed(field):
     label, operation = field[0].strip(" "), field[1].strip(" ")
     look_at("label", label, 6, "six")
     if not label and not operation and len(field) > 2:
-        raise ValueError("no operation between the first tab and the second: one tab stands in front of the operation")
+        raise ValueError("no operation between the first tab and the second: one tab comes before the operation")
     look_at("operation", operation, 4, "four")
     if len(field) > 3:
-        raise ValueError("a third tab: a remark goes behind the operands, with commas before it")
+        raise ValueError("a third tab: a remark goes after the operands, with commas before it")
     line = f"     {label:6}{operation:4}" + "".join(field[2:])
     if len(line) > 75:
         raise ValueError("the operands and the remark go past column 75")
@@ -70,7 +70,7 @@ def placed(field):
 
 def look_at(what, word, most, in_words):
     if " " in word:
-        raise ValueError(f"a blank inside the {what} {word}: is a tab missing behind {word.split(' ')[0]}?")
+        raise ValueError(f"a blank inside the {what} {word}: is a tab missing after {word.split(' ')[0]}?")
     if len(word) > most:
         raise ValueError(f"the {what} {word} has over {in_words} characters")
 

@@ -170,16 +170,16 @@ class Slips:
     def look_for_mark(self, each):
         if not each.is_typed or not each.knows_p:
             return
-        where = f" stands behind {each.p:05d}: all that is left of core is typed; declare one by DSC 1,@ behind the field"
+        where = f" follows {each.p:05d}: all that is left of core is typed; declare one by DSC 1,@ after the field"
         for place in range(each.p, self.end, each.code - WN + 1):
             field = self.owner(place)
             if (self.image(place) or " ") in MARKS or self.may_get("mark", place, place):
                 return
             if place in self.code:
-                where = f" stands behind {each.p:05d} before statement {self.code[place].statement.number}, an instruction: declare one by DSC 1,@"
+                where = f" follows {each.p:05d} before statement {self.code[place].statement.number}, an instruction: declare one by DSC 1,@"
                 break
             if field and field is not self.owner(each.p) and field in self.typed_fields and not field.is_placed:
-                where = f" stands between {each.p:05d} and {field.name}, which is typed by itself: declare one by DSC 1,@"
+                where = f" is between {each.p:05d} and {field.name}, which is typed by itself: declare one by DSC 1,@"
                 break
         yield f"no record mark{where}"
 
@@ -194,7 +194,7 @@ class Slips:
             field, code = self.owner(place), self.code.get(place)
             if code or self.image(place) and (not field or field is not self.owner(each.p) and not field.is_placed):
                 what = f"statement {code.statement.number}" if code else field.name if field else "a digit"
-                yield f"a card takes {count} places, and {what} stands within them, at {place:05d}"
+                yield f"a card takes {count} places, and {what} is within them, at {place:05d}"
                 return
 
     def reach(self, starts, ends=lambda each: False):
@@ -236,7 +236,7 @@ class Slips:
         if field and not field.is_placed and any(other.address > place and other not in self.reached for other in self.placed.instructions):
             yield f"the machine runs on into {field.name}, at {place:05d}, which is data between the instructions: declare it after the last of them"
         else:
-            yield f"the machine runs on into what stands behind this, at {place:05d}, and that is no instruction: is a halt or a branch missing?"
+            yield f"the machine runs on after this, at {place:05d}, and there is no instruction: is a halt or a branch missing?"
 
 
 def look_at_statement(it):
@@ -244,8 +244,8 @@ def look_at_statement(it):
         return
     for part in it.parts[:PARTS.get(it.operation, 2)]:
         if re.search(r"[A-Z0-9$] +[A-Z0-9$]", part):
-            yield f"a blank stands inside an operand, which is read as {part.replace(' ', '')}: is a comma missing?"
+            yield f"there is a blank inside an operand, which is read as {part.replace(' ', '')}: is a comma missing?"
     text, _, rest = text_and_address(it) if it.operation == "DAC" else ("@", "", "")
     if "@" not in text and not rest.startswith(",") and "@" in rest:
         n = int(it.parts[0])
-        yield f"the text ends before its @, which stands in the remark now: write {n + rest.index('@') + 1} for {n}"
+        yield f"the text ends before its @, which is in the remark now: write {n + rest.index('@') + 1} for {n}"
