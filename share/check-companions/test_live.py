@@ -22,6 +22,13 @@ LIVE = Path(__file__).resolve().parent.parent.parent / "bin" / "live"
 PATIENCE = 60
 
 
+def setUpModule():
+    """A signal that is ignored here, as under nohup, gets a handler, so that the programs that are started hear it."""
+    for number in (signal.SIGHUP, signal.SIGINT, signal.SIGTERM):
+        if signal.getsignal(number) == signal.SIG_IGN:
+            signal.signal(number, lambda *_: None)
+
+
 class InFolder(unittest.TestCase):
     """A folder with a deck, and a temporary folder of its own, in which nothing may be left."""
 
