@@ -139,7 +139,14 @@ class Chromium(Browser):
         return self.ask("POST", self.session + "/element", {"using": "css selector", "value": self.selector(control)})[ELEMENT]
 
     def click_element(self, element):
-        self.ask("POST", f"{self.session}/element/{element}/click", {})
+        """Clicks on an element. If the line that stays at the top hides it, the page is scrolled first, as a user scrolls it."""
+        try:
+            self.ask("POST", f"{self.session}/element/{element}/click", {})
+        except Slip as why:
+            if "click intercepted" not in str(why):
+                raise
+            self.execute("arguments[0].scrollIntoView({block: 'center'})", [{ELEMENT: element}])
+            self.ask("POST", f"{self.session}/element/{element}/click", {})
 
     def send(self, element, text):
         self.ask("POST", f"{self.session}/element/{element}/value", {"text": text})
