@@ -2,10 +2,10 @@
 ghost use Rattle.digit_core.specs.Size.{IsSize};
 
 use crate::given::Given;
+use card_code::Tally;
 use cpu_step::Machine;
 use digit_core::Core;
 use outside_io::MemHost;
-use read_checks::Tally;
 use std::alloc::{AllocError, Global};
 
 #[derive(Drop)]

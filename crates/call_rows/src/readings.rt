@@ -9,9 +9,9 @@ use crate::desk::Desk;
 use crate::lines::{RowLine, number};
 use crate::panel::lamps;
 use crate::texts::front;
+use card_code::{ReadAs, Tally, is_bad};
 use cpu_step::Machine;
 use outside_io::Unit;
-use read_checks::{ReadAs, Tally, is_bad};
 use std::alloc::{AllocError, Global};
 use std::io;
 
@@ -78,7 +78,7 @@ fn show_bad(rt: &impl Print, alloc: Global, name: &str, how: ReadAs) -> io::Resu
 // Prints what the units of a machine have read.
 fn show_read<const M: u32>(rt: &impl Print, alloc: Global, machine: &Machine<M>) -> io::Result<()> {
     let cards = machine.hopper.cards_read();
-    let (deck, behind, lines) = (cards.of_deck, cards.of_data, machine.keys.lines_read());
+    let (deck, behind, lines) = (cards.of_deck, cards.of_data, machine.keys.handed_out());
     let bad_cards = tally_text(alloc, &machine.hopper.bad_characters())?;
     let bad_lines = tally_text(alloc, &machine.keys.bad_characters())?;
     print!(rt; "read|deck {deck} data {behind} keys {lines}")?;

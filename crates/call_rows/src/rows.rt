@@ -75,8 +75,6 @@ fn unit_answer<const M: u32>(
         format!(in alloc; "{answer:?}")?
     } else if let Some(answer) = typing::call(desk, line) {
         format!(in alloc; "{answer:?}")?
-    } else if let Some(answer) = typing::read(desk, line) {
-        format!(in alloc; "{answer:?}")?
     } else if let Some(answer) = disk::call(desk, line) {
         format!(in alloc; "{answer:?}")?
     } else if let Some(answer) = steps::call(desk, line) {

@@ -6,7 +6,7 @@ use crate::desk::Desk;
 use crate::lines::{RowLine, place};
 use cpu_step::Machine;
 use outside_io::MemHost;
-use typewriter::{KeyIo, TypeIo, control, dump, read_alpha, read_num, write_alpha, write_num};
+use typewriter::{TypeIo, control, dump, read_alpha, read_num, write_alpha, write_num};
 
 // Types core; None where the line is not known.
 fn types<const M: u32>(
@@ -24,18 +24,19 @@ fn types<const M: u32>(
     }
 }
 
-// Types; None where the line is not known.
+// Types, or reads a line of the keyboard; None where the line is not known.
 pub(crate) fn call<const M: u32>(desk: &mut Desk<M>, line: &RowLine<'_>) -> Option<TypeIo> {
     match line.name {
         "SPTY" => Some(control(1, &mut desk.host)),
         "RCTY" => Some(control(2, &mut desk.host)),
         "TBTY" => Some(control(8, &mut desk.host)),
+        "RNTY" | "RATY" => read(desk, line),
         _ => types(&mut desk.machine, &mut desk.host, line),
     }
 }
 
 // Reads a line of the keyboard; None where the line is not known.
-pub(crate) fn read<const M: u32>(desk: &mut Desk<M>, line: &RowLine<'_>) -> Option<KeyIo> {
+fn read<const M: u32>(desk: &mut Desk<M>, line: &RowLine<'_>) -> Option<TypeIo> {
     let (machine, host) = (&mut desk.machine, &mut desk.host);
     let (core, panel) = (&mut machine.core, &mut machine.panel);
     let p = place(core, line.first)?;

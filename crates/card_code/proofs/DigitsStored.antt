@@ -16,7 +16,7 @@ use Rattle.traces.specs.Trace.{Trace, and_then, after_answer}
 use Rattle.traces.specs.Change.{Change, Changed, core_after_changes}
 use Rattle.card_code.specs.Characters.{num_of}
 use Rattle.card_code.specs.TextIn.{store_digit, store_digits}
-use Rattle.indicators.specs.declared.codes.TheConstants.{READ_CHECK}
+use Rattle.indicators.specs.Codes.{READ_CHECK}
 use Rattle.card_code.specs.Words.{AreCells}
 use Rattle.card_code.proofs.TextsStored.{Rest}
 use Rattle.card_code.proofs.InParts.{after_part, broken_part}

@@ -6,7 +6,7 @@ use Rattle.addr_indirect.specs.declared.Stop.{Stop}
 use Rattle.outside_io.specs.World.{Seen}
 use Rattle.traces.specs.Trace.{Trace, map_reason}
 use Rattle.traces.specs.Change.{Change, Changed, core_after_changes}
-use Rattle.traces.specs.Break.{Break, StopsBy}
+use Rattle.card_code.specs.Break.{Break, StopsBy}
 use Rattle.card_code.specs.Entries.{Entry, behind}
 use Rattle.card_code.specs.TextIn.{Changes, desk_after}
 use Rattle.card_code.specs.Feed.{Feed, Station, GivesEntry, Lacks, ReadsAll, take_next, left_at, desk_at, station}

@@ -11,7 +11,7 @@ use Rattle.outside_io.proofs.LineLemmas.{line_of-append, behind_line-append, len
 use Rattle.card_code.specs.declared.lines.Lines.{Lines}
 use Rattle.card_code.specs.declared.lines.LineAnswer.{LineAnswer}
 use Rattle.card_code.specs.declared.lines.LineAnswer.TheVariants as answer
-use Rattle.card_code.specs.Reader.{unit_of, bytes_held, has_end, HasWhole, AsksInTurn, IsInTurn, AsksOneAhead, IsOneAhead}
+use Rattle.card_code.specs.Reader.{unit_of, lines_tally, bytes_held, has_end, HasWhole, AsksInTurn, IsInTurn, AsksOneAhead, IsOneAhead}
 use Rattle.card_code.specs.Holding.{HoldsMore, HandsOut}
 use Rattle.card_code.proofs.Readers.{step_ahead, all_held}
 use Rattle.card_code.proofs.WholeHeld.{none_whole}
@@ -178,6 +178,13 @@ handed_unit now new ends (answer.Line line) gives = gives.unit
 handed_unit now new ends (answer.Jam number) jams = ap unit_of jams.same
 handed_unit now new ends answer.End never = absurd never
 handed_unit now new ends answer.Failed never = absurd never
+
+-- and the tally
+pub handed_tally : (now new : Lines) (ends : Bool) (got : LineAnswer) → HandsOut now new ends got → lines_tally new ≡ lines_tally now
+handed_tally now new ends (answer.Line line) gives = gives.tally
+handed_tally now new ends (answer.Jam number) jams = ap lines_tally jams.same
+handed_tally now new ends answer.End never = absurd never
+handed_tally now new ends answer.Failed never = absurd never
 
 -- No more bytes came, and what is held was handed out as the last line, or is too long.
 pub turn_last : (now new : Lines) (before after : Seen) (ends : Bool) (got : LineAnswer) → Ends before after (unit_of now) → HandsOut now new ends got → IsInTurn new after.world

@@ -21,3 +21,6 @@ pub mod FivesStored
 pub mod TextsOut
 pub mod TakenIn
 pub mod EntriesRead
+pub mod Tallies
+pub mod GoodStored
+pub mod OneMore

@@ -9,7 +9,7 @@ use Rattle.std.specs.Option.{is_some, unwrap_or}
 use Rattle.std.specs.Result.{IsOk, OnOk}
 use Rattle.memchr.specs.Find.{IsFirstByte, is_byte}
 use Rattle.card_code.specs.declared.lines.Lines.{Lines}
-use Rattle.card_code.specs.Reader.{unit_of, lines_handed_out, bytes_held}
+use Rattle.card_code.specs.Reader.{unit_of, lines_handed_out, lines_tally, bytes_held}
 use Rattle.card_code.specs.Holding.{HoldsMore}
 
 -- what was appended, where all of it has room
@@ -35,7 +35,7 @@ held_on held piece start end n count few within =
 -- A LF is looked for in the next `n` bytes, and what stands before it is held.
 module _ (old new : Lines) (piece ahead : List ℕ) (n room : ℕ) (fits : room + length old.held.items ≡ 82) (size : length old.piece ≡ 4014) (whole : piece ≡ old.piece)
     (ahead_is : ahead ≡ take n (take (old.end - old.start) (drop old.start piece))) (few : n ≡ min (length (take (old.end - old.start) (drop old.start piece))) room)
-    (unit_is : unit_of new ≡ unit_of old) (number_is : lines_handed_out new ≡ lines_handed_out old) (piece_is : new.piece ≡ old.piece) (end_is : new.end ≡ old.end) where
+    (unit_is : unit_of new ≡ unit_of old) (number_is : lines_handed_out new ≡ lines_handed_out old) (tally_is : lines_tally new ≡ lines_tally old) (piece_is : new.piece ≡ old.piece) (end_is : new.end ≡ old.end) where
   -- how many bytes they are
   count_next : n ≡ min (old.end - old.start) room
   count_next = omega (arith, few, size, ap length whole, old.in_piece, old.in_order, length-take (old.end - old.start) (drop old.start piece), length-drop old.start piece)
@@ -82,6 +82,7 @@ module _ (old new : Lines) (piece ahead : List ℕ) (n room : ℕ) (fits : room 
   holds None count ends never count_is ends_is start_is held_is = record {
     unit = unit_is;
     number = number_is;
+    tally = tally_is;
     same = kept count (omega (arith, count_is)) start_is held_is;
     size = ap length piece_is ∙ size;
     ends_next = record { within = λ is. (let no : false ≡ true = sym ends_is ∙ is in cc); next = λ is. (let no : false ≡ true = sym ends_is ∙ is in cc) };
@@ -93,6 +94,7 @@ module _ (old new : Lines) (piece ahead : List ℕ) (n room : ℕ) (fits : room 
       record {
         unit = unit_is;
         number = number_is;
+        tally = tally_is;
         same = kept count (omega (arith, count_is, within)) start_is held_is;
         size = ap length piece_is ∙ size;
         ends_next = record {

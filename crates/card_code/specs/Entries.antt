@@ -5,7 +5,7 @@ use Rattle.std.specs.Prelude.{ℕ, Bool, true, false, ◌-◌, List, [], ◌∷�
 use Rattle.outside_io.specs.declared.host.Unit as unit
 use Rattle.outside_io.specs.declared.host.Unit.TheVariants as units
 use Rattle.outside_io.specs.World.{one_more, World}
-use Rattle.traces.specs.Break.{Break, Empty, NoKeys, JamsAt}
+use Rattle.card_code.specs.Break.{Break, Empty, NoKeys, JamsAt}
 use Rattle.outside_io.specs.Lines.{texts_of}
 
 -- a text of at most 80 bytes, or a longer line, with its number in its unit

@@ -6,7 +6,7 @@ use Rattle.outside_io.specs.Frame.{Tells, ToldValue}
 use Rattle.addr_indirect.specs.declared.Stop.{Stop}
 use Rattle.traces.specs.Trace.{Trace, does, ◌>>=◌, lift}
 use Rattle.traces.specs.Change.{Change}
-use Rattle.traces.specs.Break.{Break, stop_as_break}
+use Rattle.card_code.specs.Break.{Break, stop_as_break}
 use Rattle.card_code.specs.Entries.{Entry, behind}
 use Rattle.card_code.specs.TextIn.{Intake, TakesText, Changes, Desk, desk_after}
 

@@ -7,7 +7,7 @@ use Rattle.card_code.specs.declared.lines.LineAnswer.{LineAnswer}
 use Rattle.card_code.specs.declared.lines.LineAnswer.TheVariants as answer
 use Rattle.card_code.specs.LineText.{text_of_line}
 use Rattle.outside_io.specs.Lines.{without_return}
-use Rattle.card_code.specs.Reader.{unit_of, lines_handed_out, bytes_held}
+use Rattle.card_code.specs.Reader.{unit_of, lines_handed_out, lines_tally, bytes_held}
 
 -- where it says so, a LF stands next
 pub record EndsNext (lines : Lines) (ends : Bool) : Type 0 where
@@ -18,6 +18,7 @@ pub record EndsNext (lines : Lines) (ends : Bool) : Type 0 where
 pub record HoldsMore (old new : Lines) (ends : Bool) : Type 0 where
   pub unit : unit_of new ≡ unit_of old
   pub number : lines_handed_out new ≡ lines_handed_out old
+  pub tally : lines_tally new ≡ lines_tally old
   pub same : bytes_held new ≡ bytes_held old
   pub size : length new.piece ≡ PIECE_ROOM
   pub ends_next : EndsNext new ends
@@ -27,6 +28,7 @@ pub record HoldsMore (old new : Lines) (ends : Bool) : Type 0 where
 pub record GivesHeld (old new : Lines) (ends : Bool) (given : List ℕ) : Type 0 where
   pub unit : unit_of new ≡ unit_of old
   pub number : lines_handed_out new ≡ one_more (lines_handed_out old)
+  pub tally : lines_tally new ≡ lines_tally old
   pub text : given ≡ without_return old.held.items
   pub short : length given ≤ 80
   pub left : bytes_held new ≡ take (old.end - (old.start + (if ends then 1 else 0)))

@@ -1,3 +1,4 @@
+pub mod Break
 pub mod Characters
 pub mod Pairs
 pub mod Words
@@ -9,6 +10,7 @@ pub mod TextIn
 pub mod Feed
 pub mod TextOut
 pub mod Written
+pub mod Readings
 -- what the crates above cite
 pub use Rattle.card_code.specs.Characters.{object_char, object_digit, punch_num}
 pub use Rattle.card_code.specs.Pairs.{alpha_of, digits}

@@ -3,6 +3,9 @@ use Rattle.std.specs.Prelude.{◌≡◌, ℕ, ◌-◌, ◌<◌, ◌≤◌, Bool,
 use Rattle.outside_io.specs.declared.host.Unit as unit
 use Rattle.outside_io.specs.World.{World, Asked, Readings, no_readings, one_reading, both_readings, Seen, Rose, Goes, BeginsWith, world_after_take, one_more}
 use Rattle.card_code.specs.declared.lines.Lines.{Lines}
+use Rattle.card_code.specs.declared.tally.ReadAs.{ReadAs}
+use Rattle.card_code.specs.declared.tally.Tally.{Tally}
+use Rattle.card_code.specs.Readings.{bad_from, with_bad}
 use Rattle.card_code.specs.declared.lines.LineAnswer.{LineAnswer}
 use Rattle.card_code.specs.declared.lines.LineAnswer.TheVariants as answer
 use Rattle.card_code.specs.declared.lines.More.{More}
@@ -18,6 +21,15 @@ unit_of lines = lines.unit
 -- how many lines were handed out
 abbrev pub lines_handed_out : Lines → ℕ
 lines_handed_out lines = lines.number
+
+-- the tally of the bad characters that were stored
+abbrev pub lines_tally : Lines → Tally
+lines_tally lines = lines.bad
+
+-- the reader after it took up the bad ones among these characters of its last line
+abbrev pub with_bad_stored : ReadAs → List ℕ → Lines → Lines
+with_bad_stored how text lines =
+    record lines { bad = with_bad (bad_from (unit_of lines) (lines_handed_out lines) how 1 text) (lines_tally lines) }
 
 -- the bytes that were taken and not handed out
 abbrev pub bytes_held : Lines → List ℕ

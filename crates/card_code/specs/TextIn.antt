@@ -1,6 +1,6 @@
 -- Texts of cards and keys that are stored in core.
--- Source: 1622 manual, numerical reading and alphameric reading; what a bad character is stored as, and the order, are
--- this project's own.
+-- Source: 1622 manual, numerical reading and alphameric reading; that the digits of pairs have no flag, what a bad
+-- character is stored as, and the order, are this project's own.
 use Rattle.std.specs.Prelude.{ℕ, ◌+◌, nat_lt, List, [], ◌∷◌, if◌then◌else◌, Option, Some, None, Ok, Err, ⊤}
 use Rattle.digit_core.specs.declared.Digit.{Digit}
 use Rattle.digit_core.specs.Cell.{unflagged_digit, store}
@@ -13,7 +13,7 @@ use Rattle.traces.specs.Change.{Change, StoresCell, Lights, store_first, light_f
 use Rattle.card_code.specs.Characters.{num_of}
 use Rattle.card_code.specs.Pairs.{Pair, alpha_of}
 use Rattle.card_code.specs.Entries.{Entry, behind}
-use Rattle.indicators.specs.declared.codes.TheConstants.{READ_CHECK}
+use Rattle.indicators.specs.Codes.{READ_CHECK}
 
 -- what reading a text does: it's taken from its unit, and then core and panel change
 pub data Intake : Type 0 where

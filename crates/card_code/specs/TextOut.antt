@@ -7,7 +7,7 @@ use Rattle.indicators.specs.Panel.{set}
 use Rattle.indicators.specs.Lamps.{Lamp, lamp_on}
 use Rattle.traces.specs.Trace.{Trace, does}
 use Rattle.card_code.specs.Pairs.{punch_alpha}
-use Rattle.indicators.specs.declared.codes.TheConstants.{WRITE_CHECK}
+use Rattle.indicators.specs.Codes.{WRITE_CHECK}
 
 -- what writing a text of pairs does: a byte goes out, or an indicator changes
 pub data Output : Type 0 where

@@ -1,4 +1,4 @@
-//! Cards and lines: the characters of digits, and the lines of a unit.
+//! Cards and lines: the characters of digits, the lines of a unit, and a tally of bad characters.
 //!
 //! A card has 80 columns, each with one character. Read numerically a character stands for one digit with its flag; the object
 //! characters are those that a digit is typed, punched or printed as. Decks, data and keyboard lines come as lines of bytes, each of
@@ -11,6 +11,7 @@ mod pair_words;
 mod pairs;
 mod storing;
 mod tables;
+mod tally;
 mod text;
 mod words;
 
@@ -18,6 +19,7 @@ pub use characters::{num_of, object_char, object_digit, punch_num};
 pub use lines::{LineAnswer, Lines, More};
 pub use pairs::{alpha_of, char_of_pair, punch_alpha};
 pub use storing::{store_digits, store_pairs};
+pub use tally::{BadCharacter, ReadAs, Tally, is_bad};
 pub use text::Line;
 pub use words::{object_chars, object_word, punch_chars, put_object_chars, put_punch_chars};
 

@@ -5,6 +5,7 @@ ghost use Rattle.outside_io.specs.World.{is_input, World};
 ghost use Rattle.outside_io.specs.Lines.{HasNoEnd};
 ghost use Rattle.card_code.specs.declared.lines.TheConstants.{LINE_ROOM, PIECE_ROOM};
 
+use crate::tally::{ReadAs, Tally};
 use crate::text::Line;
 use arrayvec::ArrayVec;
 use memchr::memchr;
@@ -44,10 +45,13 @@ const PIECE_ROOM: usize = 4014;
 ///
 /// A line is ended by a LF; a last line without LF counts where it has a byte. One CR at the end of a line is dropped. However the
 /// host cuts the unit's bytes, the lines are the same. At most 4,096 bytes are taken from the unit and not handed out yet.
+///
+/// A caller that stores characters of a line tallies the bad ones by [`Lines::take_up`].
 #[derive(Drop)]
 pub struct Lines {
     unit: Unit,
     number: u64,
+    bad: Tally,
     held: ArrayVec<u8, LINE_ROOM>,
     piece: [u8; PIECE_ROOM],
     start: usize,
@@ -60,9 +64,10 @@ pub struct Lines {
 }
 
 impl Lines {
-    ghost use Rattle.card_code.specs.Reader.{bytes_held, unit_of, lines_handed_out, lines_rest, entries_left, NextLine, NextOf, HasMore, MoreOf, HasWhole, TakesNeeded, AsksOnce, IsInTurn, IsOneAhead};
+    ghost use Rattle.card_code.specs.Reader.{bytes_held, unit_of, lines_handed_out, lines_tally, with_bad_stored, lines_rest, entries_left, NextLine, NextOf, HasMore, MoreOf, HasWhole, TakesNeeded, AsksOnce, IsInTurn, IsOneAhead};
     ghost use Rattle.card_code.specs.declared.lines.More.TheVariants as more;
     ghost use Rattle.card_code.specs.Entries.{unit_entries};
+    ghost use Rattle.card_code.specs.Readings.{no_bad};
     ghost use Rattle.card_code.specs.Holding.{HoldsMore, HandsOut, EndsNext};
 
     /// The lines of what a unit has left, of which none is handed out yet, and none asked for.
@@ -72,6 +77,7 @@ impl Lines {
         requires { is_input unit ≡ true }
         ensures unit { unit_of result ≡ unit }
         ensures number { lines_handed_out result ≡ 0 }
+        ensures tally { lines_tally result ≡ no_bad }
         ensures left { (w : World) → lines_rest result w ≡ w.left unit }
         ensures entries { (w : World) → entries_left result w ≡ unit_entries unit w }
         ensures held { bytes_held result ≡ [] }
@@ -80,6 +86,7 @@ impl Lines {
         Lines {
             unit,
             number: 0,
+            bad: Tally::new(),
             held: ArrayVec::new(),
             piece: [0; PIECE_ROOM],
             start: 0,
@@ -105,6 +112,7 @@ impl Lines {
         ensures turn { IsOneAhead self.old (H.seen host.old).world
             → IsInTurn self.new (H.seen host.new).world }
         ensures held { length (bytes_held self.new) ≤ 4096 }
+        ensures tally { lines_tally self.new ≡ lines_tally self.old }
     {
         loop {
             if self.hold_more() {
@@ -143,6 +151,7 @@ impl Lines {
         ensures turn { (result ≡ more.Yes → ⊥) → IsInTurn self.old (H.seen host.old).world
             → IsInTurn self.new (H.seen host.new).world }
         ensures held { length (bytes_held self.new) ≤ 4096 }
+        ensures tally { lines_tally self.new ≡ lines_tally self.old }
     {
         if !self.held.is_empty() || self.start < self.end {
             return More::Yes;
@@ -156,6 +165,31 @@ impl Lines {
             Take::End => More::No,
             Take::Failed => More::Failed,
         }
+    }
+
+    /// How many lines were handed out since the reader was made. The one that was handed out last has this number in its unit. The count
+    /// stays at its end, 2^64 - 1.
+    pub fn handed_out(&self) -> u64
+        ensures { result ≡ lines_handed_out self.now }
+    {
+        self.number
+    }
+
+    /// The bad characters that were tallied: the first of them with its line and column, and how many they are.
+    pub fn bad_characters(&self) -> Tally
+        ensures { result ≡ lines_tally self.now }
+    {
+        self.bad
+    }
+
+    /// Tallies the bad characters among those that were stored of the line that was handed out last.
+    ///
+    /// `stored` has its first characters, at most 80, and `how` says how they were read.
+    pub fn take_up(&mut self, how: ReadAs, stored: &[u8])
+        requires { length stored.now ≤ 80 }
+        ensures { self.new ≡ with_bad_stored how stored.now self.old }
+    {
+        self.bad.take_up(self.unit, self.number, how, stored);
     }
 
     // Holds bytes of the piece, up to the end of the line and as far as there is room. Whether it was found.

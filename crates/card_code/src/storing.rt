@@ -103,7 +103,7 @@ fn store_digit<const M: u32>(
 /// character is stored as 00, and the read check 06 goes on as its first digit is stored; it stays on where a later digit stops.
 ///
 /// Stops: 2 where a digit's position is past the end of core; the digits before it stay.
-/// Source: 1622 manual, alphameric reading; what a bad character is stored as, and the order, are this project's own.
+/// Source: 1622 manual, alphameric reading; that the digits have no flag, what a bad character is stored as, and the order, are this project's own.
 pub fn store_pairs<const M: u32>(
     core: &mut Core<M>,
     a: u32,

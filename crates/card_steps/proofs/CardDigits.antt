@@ -8,7 +8,7 @@ use Rattle.digit_core.specs.Cell.{cell, store}
 use Rattle.addr_indirect.specs.declared.Stop.{Stop}
 use Rattle.traces.specs.Trace.{Trace}
 use Rattle.traces.specs.Change.{Change, store_first}
-use Rattle.traces.specs.Break.{Break}
+use Rattle.card_code.specs.Break.{Break}
 use Rattle.card_code.specs.Characters.{object_char}
 use Rattle.card_code.specs.Entries.{Entry, Text, has_none_left, text_as_card}
 use Rattle.card_code.specs.TextIn.{Changes, Intake, store_digits}

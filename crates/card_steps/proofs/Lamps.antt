@@ -2,7 +2,7 @@
 use Rattle.std.proofs.Common.{◌≡◌, Bool, true, false, refl}
 use Rattle.std.specs.Prelude.{None}
 use Rattle.indicators.specs.declared.Panel.{Panel}
-use Rattle.indicators.specs.declared.codes.TheConstants.{LAST_CARD}
+use Rattle.indicators.specs.Codes.{LAST_CARD}
 use Rattle.indicators.specs.Panel.{set}
 use Rattle.indicators.specs.Lamps.{panel_for_load}
 use Rattle.card_unit.specs.CardCalls.{panel_after_card}

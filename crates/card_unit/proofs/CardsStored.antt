@@ -6,12 +6,12 @@ use Rattle.addr_indirect.specs.declared.Stop.{Stop}
 use Rattle.outside_io.specs.World.{Seen}
 use Rattle.traces.specs.Trace.{Trace, map_reason}
 use Rattle.traces.specs.Change.{Change, Changed}
-use Rattle.traces.specs.Break.{Break, StopsBy}
+use Rattle.card_code.specs.Break.{Break, StopsBy}
 use Rattle.card_code.specs.Entries.{Entry}
 use Rattle.card_code.specs.TextIn.{Intake}
 use Rattle.card_code.specs.Feed.{Station, station, GivesEntry, Lacks, ReadsAll}
 use Rattle.card_code.proofs.EntriesRead.{entry_read, none_read as no_entry}
-use Rattle.read_checks.specs.declared.Tally.{Tally}
+use Rattle.card_code.specs.declared.tally.Tally.{Tally}
 use Rattle.card_unit.specs.declared.hopper.Hopper.{Hopper}
 use Rattle.card_unit.specs.declared.reader.CardIo.{CardIo}
 use Rattle.card_unit.specs.Hopper.{hopper_feed}

@@ -12,12 +12,12 @@ use Rattle.card_code.specs.Characters.{digit_in}
 use Rattle.card_code.specs.Pairs.{pair_in}
 use Rattle.card_code.specs.Entries.{Entry, text_as_card}
 use Rattle.card_code.specs.TextIn.{store_digits, store_pairs}
-use Rattle.read_checks.specs.declared.ReadAs.{ReadAs}
-use Rattle.read_checks.specs.declared.ReadAs.TheVariants as as_read
-use Rattle.read_checks.specs.declared.BadCharacter.{BadCharacter}
-use Rattle.read_checks.specs.Readings.{Reading, is_bad, bad_from, bad_in, with_bad, no_lines, with_line, lines_after, AreNumbered, entry_read}
-use Rattle.read_checks.proofs.GoodStored.{no_bad_digit, no_bad_pair, none_in_first}
-use Rattle.read_checks.proofs.OneMore.{tally_more, tally_same, lines_after_more}
+use Rattle.card_code.specs.declared.tally.ReadAs.{ReadAs}
+use Rattle.card_code.specs.declared.tally.ReadAs.TheVariants as as_read
+use Rattle.card_code.specs.declared.tally.BadCharacter.{BadCharacter}
+use Rattle.card_code.specs.Readings.{Reading, is_bad, bad_from, bad_in, with_bad, no_lines, with_line, lines_after, AreNumbered, entry_read}
+use Rattle.card_code.proofs.GoodStored.{no_bad_digit, no_bad_pair, none_in_first}
+use Rattle.card_code.proofs.OneMore.{tally_more, tally_same, lines_after_more}
 use Rattle.card_unit.specs.declared.hopper.Hopper.{Hopper}
 use Rattle.card_unit.specs.declared.reader.CardIo.{CardIo}
 use Rattle.card_unit.specs.declared.reader.CardIo.TheVariants as io

@@ -5,7 +5,7 @@ use Rattle.outside_io.specs.declared.host.Unit as unit
 use Rattle.outside_io.specs.declared.host.Unit.TheVariants as units
 use Rattle.outside_io.specs.Frame.{ToldValue}
 use Rattle.outside_io.proofs.Frames.{give}
-use Rattle.traces.specs.Break.{Empty, JamsAt}
+use Rattle.card_code.specs.Break.{Empty, JamsAt}
 use Rattle.card_code.specs.Entries.{Entry, Text, Long, behind, has_none_left, next_card, text_as_card, entries_of_unit, hopper_of}
 use Rattle.card_code.specs.declared.Card.{Card}
 use Rattle.card_code.specs.Reader.{Fronts, HasNone, HasSome}

@@ -6,7 +6,7 @@ use Rattle.outside_io.specs.declared.host.Unit.TheVariants as units
 use Rattle.outside_io.specs.World.{World, Seen, same_unit}
 use Rattle.outside_io.specs.Frame.{ToldValue, Keeps}
 use Rattle.outside_io.proofs.Frames.{keeps_on, keeps_taken}
-use Rattle.traces.specs.Break.{Empty, JamsAt}
+use Rattle.card_code.specs.Break.{Empty, JamsAt}
 use Rattle.card_code.specs.declared.lines.Lines.{Lines}
 use Rattle.card_code.specs.declared.lines.More.{More}
 use Rattle.card_code.specs.declared.lines.More.TheVariants as more
@@ -28,7 +28,7 @@ use Rattle.card_unit.proofs.HopperOrder.{given_none, none_after, some_after, jam
 looks_wide : (reads more : unit.Unit → Bool) (before after : Seen) → ((u : unit.Unit) → more u ≡ false → reads u ≡ false) → LooksAt reads before after → LooksAt more before after
 looks_wide reads more before after fewer looks = record {
   later = looks.later;
-  keeps = record { file = looks.keeps.file; in_use = looks.keeps.in_use; names = looks.keeps.names; sectors = looks.keeps.sectors; left = λ u other. looks.keeps.left u (fewer u other); written = looks.keeps.written; asked = λ u other. looks.keeps.asked u (fewer u other) };
+  keeps = record { file = looks.keeps.file; in_use = looks.keeps.in_use; names = looks.keeps.names; sectors = looks.keeps.sectors; left = λ u other. looks.keeps.left u (fewer u other); written = looks.keeps.written; asked = λ u other. looks.keeps.asked u (fewer u other); room = looks.keeps.room };
 }
 
 -- neither of two tests holds

@@ -9,8 +9,8 @@ use Rattle.outside_io.specs.World.{World, one_more}
 use Rattle.card_code.specs.declared.lines.Lines.{Lines}
 use Rattle.card_code.specs.Entries.{Entry, Text, behind}
 use Rattle.card_code.specs.Reader as lines
-use Rattle.read_checks.specs.Readings.{Reading, bad_from, bad_in, counted, no_bad, no_lines, with_line, lines_after, AreNumbered, entry_read}
-use Rattle.read_checks.proofs.OneMore.{counted_more, tally_same, lines_after_more, numbered_more}
+use Rattle.card_code.specs.Readings.{Reading, bad_from, bad_in, counted, no_bad, no_lines, with_line, lines_after, AreNumbered, entry_read}
+use Rattle.card_code.proofs.OneMore.{counted_more, tally_same, lines_after_more, numbered_more}
 use Rattle.card_unit.specs.declared.counts.CardsRead.{CardsRead}
 use Rattle.card_unit.specs.declared.front.Front.{Front}
 use Rattle.card_unit.specs.declared.pile.Pile.{Pile}

@@ -6,16 +6,16 @@ use Rattle.outside_io.specs.declared.host.Unit.TheVariants as units
 use Rattle.outside_io.specs.World.{World, Seen}
 use Rattle.addr_indirect.specs.declared.Stop.{Stop}
 use Rattle.traces.specs.Trace.{Trace}
-use Rattle.traces.specs.Break.{Break, StopsBy, Empty, JamsAt}
+use Rattle.card_code.specs.Break.{Break, StopsBy, Empty, JamsAt}
 use Rattle.card_code.specs.{Entry, Intake, Output, Wrote, WroteFirst, WrotePairs, WroteFirstPairs}
-use Rattle.read_checks.specs.declared.ReadAs.{ReadAs}
-use Rattle.read_checks.specs.Readings.{Reading, bad_from, with_bad}
+use Rattle.card_code.specs.declared.tally.ReadAs.{ReadAs}
+use Rattle.card_code.specs.Readings.{Reading, bad_from, with_bad}
 use Rattle.card_unit.specs.declared.hopper.Hopper.{Hopper}
 use Rattle.card_unit.specs.declared.reader.CardIo.{CardIo}
 use Rattle.card_unit.specs.declared.reader.CardIo.TheVariants as io
 use Rattle.card_unit.specs.Hopper.{hopper_feed, line_read, Start, HasReadCardsBy}
 use Rattle.card_code.specs.Feed.{Station, ReadsIn}
-use Rattle.indicators.specs.declared.codes.TheConstants.{LAST_CARD}
+use Rattle.indicators.specs.Codes.{LAST_CARD}
 
 -- the panel once a card was taken: the last-card indicator goes on where it was the last, and else stays
 abbrev pub panel_after_card : Bool → Panel → Panel

@@ -3,7 +3,7 @@ use Rattle.std.specs.Prelude.{ℕ, ◌-◌, min}
 use Rattle.outside_io.specs.declared.host.Unit as unit
 use Rattle.outside_io.specs.declared.host.Unit.TheVariants as units
 use Rattle.outside_io.specs.World.{one_more}
-use Rattle.read_checks.specs.Readings.{counted}
+use Rattle.card_code.specs.Readings.{counted}
 use Rattle.card_unit.specs.declared.counts.CardsRead.{CardsRead}
 
 -- one more card was read of a unit

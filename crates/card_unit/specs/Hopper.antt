@@ -3,7 +3,7 @@ use Rattle.std.specs.Prelude.{ℕ, ◌≡◌, ◌≤◌, ◌+◌, ◌-◌, ◌�
 use Rattle.outside_io.specs.declared.host.Unit as unit
 use Rattle.outside_io.specs.declared.host.Unit.TheVariants as units
 use Rattle.outside_io.specs.World.{World, Seen}
-use Rattle.traces.specs.Break.{Break, Empty, JamsAt}
+use Rattle.card_code.specs.Break.{Break, Empty, JamsAt}
 use Rattle.card_code.specs.declared.Card.{Card}
 use Rattle.card_code.specs.declared.lines.Lines.{Lines}
 use Rattle.card_code.specs.declared.lines.More.{More}
@@ -11,9 +11,9 @@ use Rattle.card_code.specs.declared.lines.More.TheVariants as more
 use Rattle.card_code.specs.{Entry, Text, Long, Taken, hopper_of, behind, has_none_left, next_card, text_as_card, entries_left, HasNone}
 use Rattle.card_code.specs.Feed.{Feed, Stays, Lacks, FailsToTake, TakesNext}
 use Rattle.card_code.specs.Reader as lines
-use Rattle.read_checks.specs.declared.ReadAs.TheVariants as how
-use Rattle.read_checks.specs.declared.Tally.{Tally}
-use Rattle.read_checks.specs.Readings.{Reading, AreNumbered, no_lines, lines_after, all_bad, tally_of, entry_read}
+use Rattle.card_code.specs.declared.tally.ReadAs.TheVariants as how
+use Rattle.card_code.specs.declared.tally.Tally.{Tally}
+use Rattle.card_code.specs.Readings.{Reading, AreNumbered, no_lines, lines_after, all_bad, tally_of, entry_read}
 use Rattle.card_unit.specs.declared.counts.CardsRead.{CardsRead}
 use Rattle.card_unit.specs.Counts.{last_card_number, counted_cards}
 use Rattle.card_unit.specs.declared.hopper.Hopper.{Hopper}

@@ -5,9 +5,9 @@ use Rattle.std.specs.Prelude.{ℕ, ◌-◌, List, if◌then◌else◌, ⊤}
 use Rattle.addr_indirect.specs.declared.Stop.{Stop}
 use Rattle.traces.specs.Trace.{Trace}
 use Rattle.traces.specs.Change.{Change, light_first}
-use Rattle.traces.specs.Break.{Break}
+use Rattle.card_code.specs.Break.{Break}
 use Rattle.card_code.specs.{Entry, Taken, next_card, take_next, Intake, store_digits, store_pairs}
-use Rattle.indicators.specs.declared.codes.TheConstants.{LAST_CARD}
+use Rattle.indicators.specs.Codes.{LAST_CARD}
 
 -- a card's text is stored, once the last-card indicator is on where the card is the last
 abbrev pub store_card : (List ℕ → Trace Change ⊤ Stop) → Taken → Trace Change ⊤ Stop

@@ -5,14 +5,13 @@ ghost use Rattle.outside_io.specs.World.{World};
 ghost use Rattle.card_code.specs.{Text, unit_entries, unit_of};
 ghost use Rattle.card_unit.specs.declared.front.Front.{Front};
 ghost use Rattle.card_unit.specs.Pile.{pile_unit};
-ghost use Rattle.read_checks.specs.Readings.{bad_from, with_bad};
+ghost use Rattle.card_code.specs.Readings.{bad_from, with_bad};
 
 use crate::counts::{CardsRead, NONE_READ};
 use crate::front::{Front, Held, hold_line};
 use crate::pile::Pile;
-use card_code::{Card, Lines, More};
+use card_code::{Card, Lines, More, ReadAs, Tally};
 use outside_io::{Host, Unit};
-use read_checks::{ReadAs, Tally};
 
 /// What comes of taking a card.
 ///

@@ -7,15 +7,14 @@ ghost use Rattle.card_unit.specs.CardCalls.{ReadsCardBy, ReadsCardAsSaid, card_s
 ghost use Rattle.card_code.specs.Feed.{station};
 ghost use Rattle.card_unit.specs.Hopper.{LeavesData, own_cards, GoesOnReadingCards, line_read};
 ghost use Rattle.card_unit.specs.Reader.{read_card_numeric, read_card_alphameric};
-ghost use Rattle.read_checks.specs.Readings.{bad_from};
+ghost use Rattle.card_code.specs.Readings.{bad_from};
 
 use crate::hopper::{CardAnswer, Hopper};
 use addr_indirect::Stop;
-use card_code::{store_digits, store_pairs};
+use card_code::{ReadAs, store_digits, store_pairs};
 use digit_core::Core;
 use indicators::{LAST_CARD, Panel};
 use outside_io::{Host, Unit};
-use read_checks::ReadAs;
 
 /// How an instruction on the card unit ends.
 ///

@@ -52,6 +52,7 @@ attends_frames m old new before after frames = record {
     left = frames.keeps.left;
     written = λ u neither. frames.keeps.written u (none_of (is_written u) (same_unit units.Report u) neither);
     asked = frames.keeps.asked;
+    room = frames.keeps.room;
   };
   told = frames.told;
   told_keys = frames.told_keys;

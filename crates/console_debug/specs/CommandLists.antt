@@ -8,8 +8,8 @@ use Rattle.console_debug.specs.declared.commands.CommandFault.TheVariants as fau
 use Rattle.console_debug.specs.Breakpoints.{HasRoomIn}
 use Rattle.console_debug.specs.Grammar.{commands_of, is_break, most_back, most_shown}
 use Rattle.line_words.specs.Words.{largest_number}
-use Rattle.line_words.specs.declared.lines.LineFault.{LineFault}
-use Rattle.line_words.specs.declared.lines.LineFault.TheVariants as lines
+use Rattle.operator_script.specs.declared.lines.LineFault.{LineFault}
+use Rattle.operator_script.specs.declared.lines.LineFault.TheVariants as lines
 
 -- the commands, in their order
 abbrev pub command_list : Commands → List DebugCommand

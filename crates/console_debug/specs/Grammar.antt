@@ -2,7 +2,7 @@
 use Rattle.std.specs.Prelude.{ℕ, Bool, true, false, List, [], ◌∷◌, codes, bytes_eq, if◌then◌else◌, Option, None, option_map, option_and_then, Result}
 use Rattle.line_words.specs.Words.{words_of, number, number_in}
 use Rattle.line_words.specs.Arguments.{alone, one_word, span_below, two_words}
-use Rattle.line_words.specs.Lines.{items_of_lines}
+use Rattle.operator_script.specs.Lines.{items_of_lines}
 use Rattle.line_words.specs.declared.arguments.Span.{Span}
 use Rattle.console_debug.specs.declared.commands.DebugCommand.{DebugCommand}
 use Rattle.console_debug.specs.declared.commands.DebugCommand.TheVariants as command

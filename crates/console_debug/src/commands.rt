@@ -6,10 +6,8 @@ ghost use Rattle.console_debug.specs.Grammar.{command_of, is_break};
 ghost use Rattle.console_debug.specs.declared.commands.CommandFault.TheVariants.{Memory};
 
 use crate::breaks::Breaks;
-use line_words::{
-    LineFault, LineGrammar, alone, cut_word, number, number_in, one_word, read_lines, span_below,
-    two_words,
-};
+use line_words::{alone, cut_word, number, number_in, one_word, span_below, two_words};
+use operator_script::{LineFault, LineGrammar, read_lines};
 use std::alloc::{AllocError, Global};
 use std::vec::Vec;
 use thiserror::Error;

@@ -12,12 +12,13 @@ use Rattle.outside_io.specs.World.{Seen, same_unit}
 use Rattle.outside_io.specs.Frame.{Tells}
 use Rattle.traces.specs.Trace.{Trace, map_answer}
 use Rattle.traces.specs.Change.{StoresCell, Lights}
-use Rattle.traces.specs.Break.{Break, StopsBy, Empty, JamsAt}
+use Rattle.card_code.specs.Break.{Break, StopsBy, Empty, JamsAt}
 use Rattle.card_code.specs.Entries.{Entry, behind}
 use Rattle.card_code.specs.TextIn.{Intake, TakesText, Changes, Desk, desk_after}
 use Rattle.card_unit.specs.Hopper.{hopper_left, own_cards, hopper_feed, LooksAtHopper, GoesOnReadingCards}
 use Rattle.card_unit.specs.Pile.{is_card_unit}
-use Rattle.typewriter.specs.declared.keyboard.Keyboard.{Keyboard}
+use Rattle.card_code.specs.declared.lines.Lines.{Lines}
+use Rattle.card_code.specs.Reader.{unit_of}
 use Rattle.typewriter.specs.Keys.{keys_left}
 use Rattle.typewriter.proofs.Keyboards.{keys_same}
 use Rattle.typewriter.proofs.ReadSame.{reads_kept as keys_kept}
@@ -60,13 +61,13 @@ neither false b none = refl
 neither true b none = cc
 
 -- a look at the hopper's units leaves the keyboard's lines
-pub keys_looked : (k : Keyboard) (before later : Seen) → LooksAtHopper before later → keys_left k later.world ≡ keys_left k before.world
-keys_looked k before later looks = keys_same k before.world later.world (looks.keeps.left units.Keys refl)
+pub keys_looked : (k : Lines) (before later : Seen) → unit_of k ≡ units.Keys → LooksAtHopper before later → keys_left k later.world ≡ keys_left k before.world
+keys_looked k before later of_keys looks = keys_same k before.world later.world of_keys (looks.keeps.left units.Keys refl)
 
 -- the keyboard shows what it showed
-pub keys_told : (old new : Keyboard) (before later : Seen) → new ≡ old → LooksAtHopper before later → (ks : List Entry) → Tells (keys_left old before.world) ks → Tells (keys_left new later.world) ks
-keys_told old new before later same looks ks told =
-    subst (λ (o : Option (List Entry)). Tells o ks) (sym (ap (λ k. keys_left k later.world) same ∙ keys_looked old before later looks)) told
+pub keys_told : (old new : Lines) (before later : Seen) → unit_of old ≡ units.Keys → new ≡ old → LooksAtHopper before later → (ks : List Entry) → Tells (keys_left old before.world) ks → Tells (keys_left new later.world) ks
+keys_told old new before later of_keys same looks ks told =
+    subst (λ (o : Option (List Entry)). Tells o ks) (sym (ap (λ k. keys_left k later.world) same ∙ keys_looked old before later of_keys looks)) told
 
 -- a look at the hopper's units is within the machine's frame
 pub looked : (m : ℕ) (old new : Machine m) (before later : Seen) → new.keys ≡ old.keys → LooksAtHopper before later → is_some (hopper_left new.hopper later.world) ≡ is_some (hopper_left old.hopper before.world) → own_cards new.hopper ≡ own_cards old.hopper → GoesOnReadingCards old.hopper new.hopper before later → Frames m old new before later
@@ -80,9 +81,10 @@ looked m old new before later keys looks told own cards = record {
     left = λ u other. looks.keeps.left u (neither (is_card_unit u) (same_unit units.Keys u) other);
     written = λ u other. looks.keeps.written u refl;
     asked = λ u other. looks.keeps.asked u (neither (is_card_unit u) (same_unit units.Keys u) other);
+    room = looks.keeps.room;
   };
   told = told;
-  told_keys = ap (λ k. is_some (keys_left k later.world)) keys ∙ ap is_some (keys_looked old.keys before later looks);
+  told_keys = ap (λ k. is_some (keys_left k later.world)) keys ∙ ap is_some (keys_looked old.keys before later old.keys_are looks);
   told_sectors = ap is_some (looks.keeps.sectors refl);
   own = own;
   cards = cards;
@@ -100,7 +102,7 @@ module _ (m : ℕ) (old new : Machine m) (before later : Seen) (regs_then : Regs
         is = λ i. record { core = sym core i; regs = sym regs i; panel = sym panel i; arms = sym arms i; hopper = es; keys = ks; written = sym texts i; sectors = pack; mode = sym mode i };
         sectors = subst (λ (o : Option (ℕ → List ℕ)). Tells o pack) (sym (looks.keeps.sectors refl)) sectors;
         hopper = hopper;
-        keys = keys_told old.keys new.keys before later keys looks ks lines;
+        keys = keys_told old.keys new.keys before later old.keys_are keys looks ks lines;
       }
 
   -- where the host failed before a card was taken

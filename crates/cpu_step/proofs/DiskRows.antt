@@ -13,7 +13,7 @@ use Rattle.outside_io.specs.Frame.{Tells, Keeps}
 use Rattle.outside_io.proofs.Frames.{keeps_sectors}
 use Rattle.traces.specs.Trace.{Trace}
 use Rattle.traces.specs.Change.{StoresCell, Lights}
-use Rattle.traces.specs.Break.{Break}
+use Rattle.card_code.specs.Break.{Break}
 use Rattle.card_code.specs.Entries.{Entry}
 use Rattle.card_unit.specs.Hopper.{hopper_left, own_cards}
 use Rattle.card_unit.proofs.ReadSame.{reads_kept}

@@ -7,8 +7,7 @@ use Rattle.addr_indirect.specs.declared.Stop.{Stop}
 use Rattle.addr_indirect.specs.Reading.{read_at}
 use Rattle.traces.specs.Trace.{ends, ◌>>=◌}
 use Rattle.traces.specs.Stored.{stores, core_after}
-use Rattle.feature_ops.specs.declared.TheConstants.{NUMBER_ZONE, NEGATIVE_ZONE}
-use Rattle.feature_ops.specs.Feature.{strip_cycles, strip, core_with_pair, pair_first, fill_cycles, fill}
+use Rattle.feature_ops.specs.Feature.{NUMBER_ZONE, NEGATIVE_ZONE, strip_cycles, strip, core_with_pair, pair_first, fill_cycles, fill}
 use Rattle.cpu_step.proofs.FieldStores.{Sinks, IsGoodRead, no_both, reads, sinks_none, sinks_last, sinks_more}
 
 -- THE CYCLES OF A STRIP

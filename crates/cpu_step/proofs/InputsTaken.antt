@@ -4,7 +4,7 @@ use Rattle.std.specs.Prelude.{Option, Some, None, Result, Ok, Err}
 use Rattle.addr_indirect.specs.declared.Stop.{Stop}
 use Rattle.outside_io.specs.Events.{Event, cards_in, lines_in}
 use Rattle.outside_io.proofs.EventLemmas.{cards_append, lines_append}
-use Rattle.traces.specs.Break.{Break, StopsBy, Empty, NoKeys, JamsAt}
+use Rattle.card_code.specs.Break.{Break, StopsBy, Empty, NoKeys, JamsAt}
 use Rattle.card_code.specs.Entries.{Entry, behind}
 use Rattle.cpu_step.specs.State.{State}
 use Rattle.cpu_step.specs.Act.{Next, Continues, Halts}

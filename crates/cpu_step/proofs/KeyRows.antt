@@ -6,28 +6,29 @@ use Rattle.digit_core.specs.Size.{size}
 use Rattle.indicators.specs.Panel.{set}
 use Rattle.branch_ops.specs.declared.Regs.{Regs}
 use Rattle.branch_ops.specs.Registers.{on_at}
+use Rattle.outside_io.specs.declared.host.Unit as unit
 use Rattle.outside_io.specs.declared.host.Unit.TheVariants as units
 use Rattle.outside_io.specs.World.{World, Seen, world_after_take, same_unit}
 use Rattle.outside_io.specs.Frame.{Tells, Keeps}
 use Rattle.outside_io.proofs.Frames.{keeps_taken}
 use Rattle.traces.specs.Trace.{Trace, map_answer}
 use Rattle.traces.specs.Change.{StoresCell, Lights}
-use Rattle.traces.specs.Break.{Break, StopsBy, NoKeys, JamsAt}
+use Rattle.card_code.specs.Break.{Break, StopsBy, NoKeys, JamsAt}
 use Rattle.card_code.specs.Entries.{Entry, behind}
 use Rattle.card_code.specs.TextIn.{Intake, TakesText, Changes, Desk, desk_after}
 use Rattle.card_unit.specs.Pile.{is_card_unit}
 use Rattle.card_unit.specs.Hopper.{hopper_left, own_cards}
 use Rattle.card_unit.proofs.ReadSame.{reads_kept}
-use Rattle.typewriter.specs.declared.reading.KeyIo.{KeyIo}
-use Rattle.typewriter.specs.declared.reading.KeyIo.TheVariants as io
-use Rattle.typewriter.specs.Keys.{keys_left, key_feed, LooksAtKeys, GoesOnReadingLines}
-use Rattle.typewriter.specs.KeyCalls.{ReadsLineBy}
-use Rattle.card_code.specs.Feed.{station, ReadsAll, ReadsNone}
+use Rattle.typewriter.specs.declared.typing.TypeIo.{TypeIo}
+use Rattle.typewriter.specs.declared.typing.TypeIo.TheVariants as io
+use Rattle.typewriter.specs.Keys.{keys_left, line_feed, key_feed, LooksAtUnit, GoesOnReadingLines}
+use Rattle.typewriter.specs.KeyCalls.{line_reading_ending, ReadsLineBy}
+use Rattle.card_code.specs.Feed.{station, ReadsIn, ReadsAll, ReadsNone}
 use Rattle.cpu_step.specs.declared.machine.Machine.{Machine}
 use Rattle.cpu_step.specs.State.{State}
 use Rattle.cpu_step.specs.Effects.{of_keys, after}
 use Rattle.cpu_step.specs.Act.{Continues, keyboard_action}
-use Rattle.cpu_step.specs.Machine.{state_with, Shows, Frames, DidAction, DidFirst, Acts, keyboard_outcome, is_read, is_written, machine_texts}
+use Rattle.cpu_step.specs.Machine.{state_with, Shows, Frames, DidAction, DidFirst, Acts, typewriter_outcome, is_read, is_written, machine_texts}
 use Rattle.cpu_step.proofs.ShownStates.{whatever, some_state, some_shown}
 use Rattle.cpu_step.proofs.Readers.{hopper_same}
 use Rattle.cpu_step.proofs.CardRows.{told_same, tells_next}
@@ -50,10 +51,10 @@ after_keys (Changes (StoresCell x) ∷ es) s = after_keys es (record s { core = 
 after_keys (Changes (Lights l) ∷ es) s = after_keys es (record s { panel = set l.code l.to s.panel })
 
 module _ (m : ℕ) (old new : Machine m) (before later : Seen) (hopper : new.hopper ≡ old.hopper) (lines : GoesOnReadingLines old.keys new.keys before later) where
-  told_hopper : LooksAtKeys before later → hopper_left new.hopper later.world ≡ hopper_left old.hopper before.world
+  told_hopper : LooksAtUnit units.Keys before later → hopper_left new.hopper later.world ≡ hopper_left old.hopper before.world
   told_hopper looks = (λ i. hopper_left (hopper i) (looks.goes.world i)) ∙ hopper_same old.hopper (world_after_take units.Keys looks.taken before.world) before.world refl refl
 
-  looked : LooksAtKeys before later → is_some (keys_left new.keys later.world) ≡ is_some (keys_left old.keys before.world) → Frames m old new before later
+  looked : LooksAtUnit units.Keys before later → is_some (keys_left new.keys later.world) ≡ is_some (keys_left old.keys before.world) → Frames m old new before later
   looked looks told = record {
     later = looks.goes.later;
     keeps = subst (λ (w : World). Keeps is_read is_written true before.world w) (sym looks.goes.world) (keeps_taken is_read is_written true units.Keys looks.taken before.world (λ u same. right_true (is_card_unit u) (same_unit units.Keys u) same));
@@ -112,10 +113,16 @@ module _ (m : ℕ) (old new : Machine m) (before later : Seen) (hopper : new.hop
         }
 
     -- an instruction that reads a line of the keyboard
-    pub keyboard_acts : (next : Regs) (answer : KeyIo) → next ≡ on_at old.regs (old.regs.ir + 12) → length old.core ≡ size m
-        → ReadsLineBy (t (size m)) (station old.core old.panel old.keys before) (station new.core new.panel new.keys later) answer → Acts m (λ s. keyboard_action s t) old new before later (keyboard_outcome next answer)
-    keyboard_acts next io.Done next_is long reads = keyed_did next (Ok tt) next_is long reads
-    keyboard_acts next (io.Stop why) next_is long reads = keyed_did next (Err (StopsBy why)) next_is long reads
-    keyboard_acts next io.NoKeys next_is long reads = keyed_did next (Err NoKeys) next_is long reads
-    keyboard_acts next (io.Jam n) next_is long reads = keyed_did next (Err (JamsAt units.Keys n)) next_is long reads
-    keyboard_acts next io.Failed next_is long reads = keyboard_first reads
+    acts_so : (next : Regs) (answer : TypeIo) → next ≡ on_at old.regs (old.regs.ir + 12) → length old.core ≡ size m
+        → ReadsIn key_feed (t (size m)) (station old.core old.panel old.keys before) (station new.core new.panel new.keys later) (line_reading_ending units.Keys answer) → Acts m (λ s. keyboard_action s t) old new before later (typewriter_outcome next answer)
+    acts_so next io.Done next_is long reads = keyed_did next (Ok tt) next_is long reads
+    acts_so next (io.Stop why) next_is long reads = keyed_did next (Err (StopsBy why)) next_is long reads
+    acts_so next io.NoKeys next_is long reads = keyed_did next (Err NoKeys) next_is long reads
+    acts_so next (io.Jam n) next_is long reads = keyed_did next (Err (JamsAt units.Keys n)) next_is long reads
+    acts_so next io.Failed next_is long reads = keyboard_first reads
+
+    pub keyboard_acts : (next : Regs) (answer : TypeIo) → next ≡ on_at old.regs (old.regs.ir + 12) → length old.core ≡ size m
+        → ReadsLineBy (t (size m)) (station old.core old.panel old.keys before) (station new.core new.panel new.keys later) answer → Acts m (λ s. keyboard_action s t) old new before later (typewriter_outcome next answer)
+    keyboard_acts next answer next_is long reads =
+        acts_so next answer next_is long
+        (subst (λ (u : unit.Unit). ReadsIn (line_feed u) (t (size m)) (station old.core old.panel old.keys before) (station new.core new.panel new.keys later) (line_reading_ending u answer)) old.keys_are reads)

@@ -25,3 +25,4 @@ pub mod TableRows
 pub mod StepStores
 pub mod StoredWords
 pub mod CheckParts
+pub mod KeyFacts

@@ -6,7 +6,7 @@ use Rattle.indicators.specs.declared.Panel.{Panel}
 use Rattle.indicators.specs.Lamps.{panel_for_load}
 use Rattle.branch_ops.specs.Registers.{on_at}
 use Rattle.outside_io.specs.World.{Seen}
-use Rattle.traces.specs.Break.{Break}
+use Rattle.card_code.specs.Break.{Break}
 use Rattle.card_unit.specs.Hopper.{hopper_left, own_cards, hopper_feed, GoesOnReadingCards}
 use Rattle.card_unit.specs.Reader.{read_card_numeric}
 use Rattle.card_code.specs.Feed.{station, ReadsAll, ReadsNone}

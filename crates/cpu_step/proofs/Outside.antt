@@ -3,12 +3,13 @@ use Rattle.std.proofs.Common.{◌≡◌, ℕ, zero, suc, Bool, true, false, List
 use Rattle.std.proofs.Math.Path.{fun_ext}
 use Rattle.std.proofs.lemmas.Bool.{true≢false}
 use Rattle.std.proofs.lemmas.List.Elements.{All-head, All-tail, All-take}
-use Rattle.std.specs.Prelude.{Option, Some, None, Result, Ok, Err}
-use Rattle.outside_io.specs.World.{World, same_unit}
-use Rattle.outside_io.specs.Frame.{Keeps}
+use Rattle.std.specs.Prelude.{Option, Some, None, option_map, Result, Ok, Err}
+use Rattle.outside_io.specs.World.{World, same_unit, at}
+use Rattle.outside_io.specs.Frame.{Keeps, with_less_room}
 use Rattle.outside_io.specs.Events.{Event, after_events, IsFirstPart, SameOutside, DidAll}
+use Rattle.outside_io.proofs.Frames.{keeps_all, less_room_put}
 use Rattle.outside_io.proofs.EventLemmas.{same_on, same_sym, same_events, after_append, first_none, first_on}
-use Rattle.traces.specs.Break.{Break, StopsBy, Empty, NoKeys, JamsAt}
+use Rattle.card_code.specs.Break.{Break, StopsBy, Empty, NoKeys, JamsAt}
 use Rattle.addr_indirect.specs.declared.Stop.{Stop}
 use Rattle.cpu_step.specs.declared.machine.Machine.{Machine}
 use Rattle.cpu_step.specs.State.{UnitTexts, State}
@@ -22,11 +23,16 @@ use Rattle.cpu_step.proofs.ExactCards.{state_is, state_pack}
 use Rattle.cpu_step.proofs.Texts.{same_written}
 use Rattle.cpu_step.proofs.OwnUnits.{IsOwn, instruction_own, load_own}
 
--- a world with the texts and the sectors of a state
+-- the texts of a world with those of a state
+abbrev seen_texts : World → State → UnitTexts
+seen_texts w s v = if is_written v then s.written v else w.written v
+
+-- a world with the texts and the sectors of a state, and with the room that these texts leave
 abbrev pub seen_by : World → State → World
 seen_by w s = record w {
-  written = λ v. if is_written v then s.written v else w.written v;
+  written = seen_texts w s;
   sectors = Some s.sectors;
+  limits = option_map (with_less_room w.written (seen_texts w s)) w.limits;
 }
 
 seen_put : (own same : Bool) (byte : ℕ) (o p : Option (List ℕ)) → (same ≡ true → own ≡ true)
@@ -40,7 +46,10 @@ module _ (w : World) where
   one_seen s (CellStored d) own = refl
   one_seen s (Light l) own = refl
   one_seen s (Arm drive cylinder) own = refl
-  one_seen s (Written u b) own = ap (λ (texts : UnitTexts). record (seen_by w s) { written = texts }) (fun_ext (λ v. seen_put (is_written v) (same_unit u v) b (s.written v) (w.written v) (same_written u true own v)))
+  one_seen s (Written u b) own =
+      let texts : seen_texts w (after_one s (Written u b)) ≡ at u (with_bytes (b ∷ [])) (seen_texts w s) = fun_ext (λ v. seen_put (is_written v) (same_unit u v) b (s.written v) (w.written v) (same_written u true own v)) in
+      let limits = ap (λ (t : UnitTexts). option_map (with_less_room w.written t) w.limits) texts ∙ sym (less_room_put u (b ∷ []) w.written (seen_texts w s) w.limits) in
+      λ i. record (seen_by w s) { written = texts i; limits = limits i }
   one_seen s (Sector a bytes) own = refl
   one_seen s CardTaken own = refl
   one_seen s LineTaken own = refl
@@ -94,16 +103,15 @@ shown_at false now old other = other refl
 pub shown_over : (m : ℕ) (machine : Machine m) (old now : World) (s : State) → Keeps is_read is_written true old now → state_of m machine now ≡ Some s → SameOutside now (seen_by old s)
 shown_over m machine old now s keeps here =
     let shown = state_is m machine now s here in
+    let texts : now.written ≡ seen_texts old s = fun_ext (λ v. shown_at (is_written v) (now.written v) (old.written v) (keeps.written v)) ∙ (λ i v. if is_written v then (sym shown i).written v else old.written v) in
     record {
       file = keeps.file;
       in_use = keeps.in_use;
       names = keeps.names;
-      written = fun_ext (λ v. shown_at (is_written v) (now.written v) (old.written v) (keeps.written v)) ∙ (λ i v. if is_written v then (sym shown i).written v else old.written v);
+      written = texts;
       sectors = state_pack m machine now s here;
+      limits = keeps.room.limits ∙ ap (λ (t : UnitTexts). option_map (with_less_room old.written t) old.limits) texts;
     }
-
-stays : (w : World) → Keeps is_read is_written true w w
-stays w = record { file = refl; in_use = refl; names = refl; sectors = λ _. refl; left = λ u _. refl; written = λ u _. refl; asked = λ u _. refl }
 
 -- events between two states are those between their worlds
 pub did_between : (m : ℕ) (before_machine machine : Machine m) (old now : World) (s t : State) (ds : List Event) → Keeps is_read is_written true old now → state_of m before_machine old ≡ Some s → state_of m machine now ≡ Some t
@@ -111,4 +119,4 @@ pub did_between : (m : ℕ) (before_machine machine : Machine m) (old now : Worl
 did_between m before_machine machine old now s t ds keeps here there path =
     same_on now (seen_by old t) (after_events old ds) (shown_over m machine old now t keeps there)
     (subst (λ (w : World). SameOutside w (after_events old ds)) (sym path)
-    (same_events ds (seen_by old s) old (same_sym old (seen_by old s) (shown_over m before_machine old old s (stays old) here))))
+    (same_events ds (seen_by old s) old (same_sym old (seen_by old s) (shown_over m before_machine old old s (keeps_all is_read is_written true old) here))))

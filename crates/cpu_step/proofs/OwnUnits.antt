@@ -8,7 +8,7 @@ use Rattle.outside_io.specs.declared.host.Unit as unit
 use Rattle.outside_io.specs.declared.host.Unit.TheVariants as units
 use Rattle.traces.specs.Trace.{Trace, after_answer, ◌>>=◌}
 use Rattle.traces.specs.Change.{Change, StoresCell, Lights}
-use Rattle.traces.specs.Break.{Break, or_break}
+use Rattle.card_code.specs.Break.{Break, or_break}
 use Rattle.card_code.specs.{Output, WritesByte, Warns, Intake, TakesText, Changes}
 use Rattle.card_unit.specs.Reader as reader
 use Rattle.card_unit.specs.Punch.{punch_numeric, punch_alphameric, punch_dump}

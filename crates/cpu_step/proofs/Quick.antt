@@ -3,7 +3,9 @@ use Rattle.std.proofs.Common.{ℕ, ◌≡◌, ◌+◌, ◌≤◌, List, length, 
 use Rattle.std.proofs.lemmas.Bool.Decides.{nat_tests}
 use Rattle.digit_core.specs.Size.{size, IsSize}
 use Rattle.std.specs.Prelude.{Result, Ok}
+use Rattle.outside_io.specs.declared.host.Unit.TheVariants as units
 use Rattle.outside_io.specs.World.{World, Seen}
+use Rattle.card_code.specs.Reader.{unit_of}
 use Rattle.traces.specs.Trace.{Trace, ends}
 use Rattle.cpu_step.specs.declared.machine.Machine.{Machine}
 use Rattle.cpu_step.specs.declared.rows.Row.{Row}
@@ -14,7 +16,7 @@ use Rattle.cpu_step.specs.Step.{instruction}
 use Rattle.cpu_step.specs.declared.memo.Memo.{Memo}
 use Rattle.instruction_table.specs.declared.MayStore.{MayStore}
 use Rattle.cpu_step.specs.Known.{found_with, uses_at, ComesToRow, ComesToB}
-use Rattle.traces.specs.Break.{Break}
+use Rattle.card_code.specs.Break.{Break}
 use Rattle.cpu_step.specs.declared.machine.Outcome.{Outcome}
 use Rattle.cpu_step.specs.declared.machine.Outcome.TheVariants as outcome
 use Rattle.cpu_step.specs.Effects.{Effect}
@@ -38,9 +40,9 @@ pub in_size : (m : ℕ) (core : List ℕ) (ir : ℕ) → IsSize m → length cor
 in_size m core ir is long inside = grind (arith, nat_tests)
 
 -- what the memo knows is no part of what a machine shows
-module _ (m : ℕ) (t : State → Trace Effect Next Break) (old new : Machine m) (known : Memo m) (before later : Seen) where
+module _ (m : ℕ) (t : State → Trace Effect Next Break) (old new : Machine m) (known : Memo m) (of_keys : unit_of old.keys ≡ units.Keys) (before later : Seen) where
   abbrev with_memo : Machine m
-  with_memo = record old { memo = known }
+  with_memo = record old { memo = known; keys_are = of_keys }
 
   shows_old : (w : World) (s : State) → Shows m with_memo w s → Shows m old w s
   shows_old w s h = record { is = h.is; hopper = h.hopper; keys = h.keys; sectors = h.sectors }

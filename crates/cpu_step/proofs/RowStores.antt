@@ -13,7 +13,7 @@ use Rattle.outside_io.specs.World.{at}
 use Rattle.traces.specs.Trace.{Trace, ends, lift, and_then, with_answer, ◌>>=◌}
 use Rattle.traces.specs.Change.{Change, StoresCell, core_after_changes}
 use Rattle.traces.specs.Stored.{Stored, stores, core_after}
-use Rattle.traces.specs.Break.{or_break, stop_as_break}
+use Rattle.card_code.specs.Break.{or_break, stop_as_break}
 use Rattle.card_code.specs.{Output, WritesByte, Warns}
 use Rattle.field_moves.specs.Move.{copy_digit, move_field, move_record}
 use Rattle.field_moves.specs.Flag.{set_flag, clear_flag}

@@ -9,7 +9,7 @@ use Rattle.outside_io.specs.World.{World, Seen, at, with_sector}
 use Rattle.outside_io.specs.Frame.{Tells, ToldValue}
 use Rattle.outside_io.proofs.Frames.{keeps_all}
 use Rattle.traces.specs.Trace.{Trace, ends}
-use Rattle.traces.specs.Break.{Break, StopsBy}
+use Rattle.card_code.specs.Break.{Break, StopsBy}
 use Rattle.digit_core.specs.Cell.{store}
 use Rattle.indicators.specs.Panel.{set}
 use Rattle.card_code.specs.Entries.{Entry, behind}

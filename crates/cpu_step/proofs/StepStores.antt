@@ -8,7 +8,7 @@ use Rattle.addr_indirect.specs.declared.Stop.{Stop}
 use Rattle.addr_indirect.specs.declared.Instr.{Instr}
 use Rattle.card_code.specs.Entries.{behind}
 use Rattle.traces.specs.Trace.{Trace, ends, ◌>>=◌}
-use Rattle.traces.specs.Break.{Break, StopsBy, Empty, NoKeys, JamsAt, or_break}
+use Rattle.card_code.specs.Break.{Break, StopsBy, Empty, NoKeys, JamsAt, or_break}
 use Rattle.instruction_table.specs.declared.MayStore.{MayStore}
 use Rattle.instruction_table.specs.declared.MayStore.TheVariants as column
 use Rattle.cpu_step.specs.declared.rows.Row.{Row}

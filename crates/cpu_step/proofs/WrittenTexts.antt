@@ -12,7 +12,7 @@ use Rattle.outside_io.specs.World.{World, Seen, Goes as Later, at, world_after_p
 use Rattle.outside_io.specs.Frame.{Tells, Keeps}
 use Rattle.outside_io.proofs.Frames.{keeps_added}
 use Rattle.traces.specs.Trace.{Trace, lift}
-use Rattle.traces.specs.Break.{Break, stop_as_break}
+use Rattle.card_code.specs.Break.{Break, stop_as_break}
 use Rattle.card_code.specs.Entries.{Entry}
 use Rattle.card_code.specs.TextOut.{Output, WritesByte, Warns, bytes_out, lamps_of}
 use Rattle.card_code.specs.Written.{Wrote, WroteFirst, WrotePairs, WroteFirstPairs}
@@ -32,7 +32,7 @@ use Rattle.cpu_step.specs.declared.machine.Machine.{Machine}
 use Rattle.cpu_step.specs.State.{UnitTexts, State}
 use Rattle.cpu_step.specs.Effects.{Effect, Written, of_output, with_bytes, after}
 use Rattle.cpu_step.specs.Act.{Next, then_next, typing_action, pair_typing_action, punch_action, pair_punch_action}
-use Rattle.cpu_step.specs.Machine.{Shows, Frames, DidAction, DidFirst, Acts, typing_outcome, card_outcome, is_read, is_written, machine_texts}
+use Rattle.cpu_step.specs.Machine.{Shows, Frames, DidAction, DidFirst, Acts, typewriter_outcome, card_outcome, is_read, is_written, machine_texts}
 use Rattle.cpu_step.proofs.ShownStates.{some_state, some_shown}
 use Rattle.cpu_step.proofs.Parts.{went_on}
 use Rattle.cpu_step.proofs.Texts.{put_none, put_on, texts_put, same_written}
@@ -160,14 +160,18 @@ module _ (m : ℕ) (old new : Machine m) (before later : Seen) (core : new.core 
       }
 
   -- instructions that type, and that punch
-  pub typing_acts : (f : List ℕ → Trace ℕ ⊤ Stop) (next : Regs) (answer : TypeIo) → next ≡ behind_it → new.panel ≡ old.panel → Types (f old.core) before later answer → Acts m (λ s. typing_action s (f s.core)) old new before later (typing_outcome next answer)
+  pub typing_acts : (f : List ℕ → Trace ℕ ⊤ Stop) (next : Regs) (answer : TypeIo) → next ≡ behind_it → new.panel ≡ old.panel → Types (f old.core) before later answer → Acts m (λ s. typing_action s (f s.core)) old new before later (typewriter_outcome next answer)
   typing_acts f next io.Done is panel types = rw is (wrote_did units.Typed refl f panel (Ok tt) types)
   typing_acts f next (io.Stop why) is panel types = wrote_did units.Typed refl f panel (Err why) types
+  typing_acts f next io.NoKeys is panel types = absurd types
+  typing_acts f next (io.Jam n) is panel types = absurd types
   typing_acts f next io.Failed is panel types = wrote_first units.Typed refl f panel types
 
-  pub pair_typing_acts : (f : List ℕ → Trace Output ⊤ Stop) (next : Regs) (answer : TypeIo) → next ≡ behind_it → TypesPairs (f old.core) old.panel before new.panel later answer → Acts m (λ s. pair_typing_action s (f s.core)) old new before later (typing_outcome next answer)
+  pub pair_typing_acts : (f : List ℕ → Trace Output ⊤ Stop) (next : Regs) (answer : TypeIo) → next ≡ behind_it → TypesPairs (f old.core) old.panel before new.panel later answer → Acts m (λ s. pair_typing_action s (f s.core)) old new before later (typewriter_outcome next answer)
   pair_typing_acts f next io.Done is types = rw is (pairs_did units.Typed refl f (Ok tt) types)
   pair_typing_acts f next (io.Stop why) is types = pairs_did units.Typed refl f (Err why) types
+  pair_typing_acts f next io.NoKeys is types = absurd types
+  pair_typing_acts f next (io.Jam n) is types = absurd types
   pair_typing_acts f next io.Failed is types = pairs_first units.Typed refl f types
 
   pub punch_acts : (f : List ℕ → Trace ℕ ⊤ Stop) (next : Regs) (answer : CardIo) → next ≡ behind_it → new.panel ≡ old.panel → Punches (f old.core) before later answer → Acts m (λ s. punch_action s (f s.core)) old new before later (card_outcome next answer)

@@ -2,9 +2,7 @@
 ghost use Rattle.std.specs.Prelude.{◌≡◌, ◌<◌, ◌≤◌, ◌+◌, ◌%◌, true};
 ghost use Rattle.digit_core.specs.Size.{size};
 
-use crate::ends::{
-    branch_outcome, card_outcome, core_outcome, disk_outcome, keyboard_outcome, typing_outcome,
-};
+use crate::ends::{branch_outcome, card_outcome, core_outcome, disk_outcome, typewriter_outcome};
 use crate::machine::{Machine, Outcome};
 use crate::rows::{CardRow, ConsoleRow, DiskRow, InOutRow, Row};
 use branch_ops::{BranchOperands, Fields, Operands, Regs, branch_known};
@@ -108,20 +106,23 @@ impl<const M: u32> Machine<M> {
             ..
         } = self;
         match row {
-            ConsoleRow::Space => typing_outcome(typewriter::control(1, host), regs),
-            ConsoleRow::Return => typing_outcome(typewriter::control(2, host), regs),
-            ConsoleRow::Tab => typing_outcome(typewriter::control(8, host), regs),
-            ConsoleRow::Dump => typing_outcome(typewriter::dump(core, p, host), regs),
-            ConsoleRow::WriteNumeric => typing_outcome(typewriter::write_num(core, p, host), regs),
-            ConsoleRow::WriteAlpha => typing_outcome(
+            ConsoleRow::Space => typewriter_outcome(typewriter::control(1, host), regs),
+            ConsoleRow::Return => typewriter_outcome(typewriter::control(2, host), regs),
+            ConsoleRow::Tab => typewriter_outcome(typewriter::control(8, host), regs),
+            ConsoleRow::Dump => typewriter_outcome(typewriter::dump(core, p, host), regs),
+            ConsoleRow::WriteNumeric => typewriter_outcome(
+                typewriter::write_num(core, p, host),
+                regs,
+            ),
+            ConsoleRow::WriteAlpha => typewriter_outcome(
                 typewriter::write_alpha(core, p, panel, host),
                 regs,
             ),
-            ConsoleRow::ReadNumeric => keyboard_outcome(
+            ConsoleRow::ReadNumeric => typewriter_outcome(
                 typewriter::read_num(core, p, panel, keys, host),
                 regs,
             ),
-            ConsoleRow::ReadAlpha => keyboard_outcome(
+            ConsoleRow::ReadAlpha => typewriter_outcome(
                 typewriter::read_alpha(core, p, panel, keys, host),
                 regs,
             ),

@@ -4,10 +4,10 @@ ghost use Rattle.std.specs.Prelude.{◌≡◌};
 use crate::checks::{CELLS, CheckPart, check_part};
 use crate::machine::{Machine, Mode};
 use branch_ops::Regs;
+use card_code::Tally;
 use card_unit::CardsRead;
 use disk_1311::DRIVES;
 use indicators::Panel;
-use read_checks::Tally;
 
 /// What the console of a machine shows, and what its card reader and its keyboard have read.
 ///
@@ -53,7 +53,7 @@ impl<const M: u32> Machine<M> {
             part: self.check_part(),
             cards: self.hopper.cards_read(),
             bad_cards: self.hopper.bad_characters(),
-            lines: self.keys.lines_read(),
+            lines: self.keys.handed_out(),
             bad_keys: self.keys.bad_characters(),
         }
     }

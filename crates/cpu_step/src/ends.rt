@@ -1,7 +1,7 @@
 // How an instruction ends, by the answers of the machine's parts and by the check switches.
 ghost use Rattle.std.specs.Prelude.{◌≡◌};
 ghost use Rattle.cpu_step.specs.Step.{with_parity, check_stop};
-ghost use Rattle.cpu_step.specs.Machine.{core_outcome, typing_outcome, card_outcome, keyboard_outcome, disk_outcome, branch_outcome};
+ghost use Rattle.cpu_step.specs.Machine.{core_outcome, typewriter_outcome, card_outcome, disk_outcome, branch_outcome};
 
 use crate::machine::Outcome;
 use addr_indirect::Stop;
@@ -10,7 +10,7 @@ use card_unit::CardIo;
 use disk_1311::DiskIo;
 use indicators::{EVEN_PARITY, ODD_PARITY, Panel};
 use outside_io::Unit;
-use typewriter::{KeyIo, TypeIo};
+use typewriter::TypeIo;
 
 // On with these registers, where nothing stopped within core.
 pub(crate) fn core_outcome(answer: Result<(), Stop>, regs: Regs) -> Outcome
@@ -34,17 +34,6 @@ pub(crate) fn branch_outcome(answer: Result<u32, Stop>, regs: Regs) -> Outcome
     }
 }
 
-// On with these registers, where all was typed.
-pub(crate) fn typing_outcome(answer: TypeIo, regs: Regs) -> Outcome
-    ensures { result ≡ typing_outcome regs answer }
-{
-    match answer {
-        TypeIo::Done => Outcome::Goes { regs },
-        TypeIo::Stop(stop) => Outcome::Stops(stop),
-        TypeIo::Failed => Outcome::Fails,
-    }
-}
-
 // On with these registers, where the card was read or punched.
 pub(crate) fn card_outcome(answer: CardIo, regs: Regs) -> Outcome
     ensures { result ≡ card_outcome regs answer }
@@ -58,19 +47,19 @@ pub(crate) fn card_outcome(answer: CardIo, regs: Regs) -> Outcome
     }
 }
 
-// On with these registers, where the line was read.
-pub(crate) fn keyboard_outcome(answer: KeyIo, regs: Regs) -> Outcome
-    ensures { result ≡ keyboard_outcome regs answer }
+// On with these registers, if all was typed or the line was read.
+pub(crate) fn typewriter_outcome(answer: TypeIo, regs: Regs) -> Outcome
+    ensures { result ≡ typewriter_outcome regs answer }
 {
     match answer {
-        KeyIo::Done => Outcome::Goes { regs },
-        KeyIo::Stop(stop) => Outcome::Stops(stop),
-        KeyIo::NoKeys => Outcome::NoKeys,
-        KeyIo::Jam(line) => Outcome::Jam {
+        TypeIo::Done => Outcome::Goes { regs },
+        TypeIo::Stop(stop) => Outcome::Stops(stop),
+        TypeIo::NoKeys => Outcome::NoKeys,
+        TypeIo::Jam(line) => Outcome::Jam {
             unit: Unit::Keys,
             line,
         },
-        KeyIo::Failed => Outcome::Fails,
+        TypeIo::Failed => Outcome::Fails,
     }
 }
 

@@ -1,17 +1,19 @@
 // The machine, its mode, and how it ends.
 ghost use Rattle.std.specs.Prelude.{◌≡◌, IfOk};
 ghost use Rattle.digit_core.specs.Size.{IsSize};
+ghost use Rattle.outside_io.specs.declared.host.Unit.TheVariants as units;
+ghost use Rattle.card_code.specs.{unit_of};
 
 use crate::memo::Memo;
 use addr_indirect::Stop;
 use branch_ops::Regs;
+use card_code::Lines;
 use card_unit::Hopper;
 use digit_core::Core;
 use disk_1311::DRIVES;
 use indicators::Panel;
 use outside_io::Unit;
 use std::alloc::{AllocError, Global};
-use typewriter::Keyboard;
 
 /// How the machine stands.
 ///
@@ -103,11 +105,12 @@ pub struct Machine<const M: u32> {
     /// The cards that are still to be read.
     pub hopper: Hopper,
     /// The lines of the keyboard that are still to be read.
-    pub keys: Keyboard,
+    pub keys: Lines,
     /// How the machine stands.
     pub mode: Mode,
     // What instructions came to before; no part of what the machine shows.
     pub(crate) memo: Memo<M>,
+    ghost keys_are: { unit_of keys ≡ units.Keys },
 }
 
 impl<const M: u32> Machine<M> {
@@ -129,7 +132,7 @@ impl<const M: u32> Machine<M> {
             panel: Panel::new(),
             arms: [0; DRIVES],
             hopper,
-            keys: Keyboard::new(),
+            keys: Lines::new(Unit::Keys),
             mode: Mode::Halted { at: 0 },
             memo: Memo::new(alloc)?,
         })

@@ -5,7 +5,7 @@ use Rattle.digit_core.specs.Cell.{unflagged_digit, with_flag}
 use Rattle.card_code.specs.Characters.{object_char}
 use Rattle.sps_pass_two.specs.Image.{DigitRun}
 use Rattle.deck_punch.specs.declared.cards.TheConstants.{TRANSMIT_DIGIT, TRANSMIT_FIELD, CLEAR_FLAG, READ_NUMERICALLY, NO_OPERATION, BRANCH, LAST_COLUMN, CARD_READER}
-use Rattle.deck_punch.specs.declared.segment.TheConstants.{SEGMENT_DIGITS}
+use Rattle.deck_punch.specs.Cut.{SEGMENT_DIGITS}
 use Rattle.card_columns.specs.Orders.{instruction_columns}
 
 -- the next card is read into 00000 to 00079, and the machine goes on there: what stands in 00024 to 00047 of a segment's card

@@ -2,8 +2,7 @@
 use Rattle.std.specs.Prelude.{ℕ, ◌≡◌, ◌+◌, ◌-◌, ◌<◌, ◌≤◌, ◌⊎◌, true, false, List, [], ◌∷◌, ◌++◌, length}
 use Rattle.digit_core.specs.declared.Digit.{Digit}
 use Rattle.sps_pass_two.specs.Image.{DigitRun}
-use Rattle.deck_punch.specs.Cut.{cut_piece}
-use Rattle.deck_punch.specs.declared.segment.TheConstants.{SEGMENT_DIGITS}
+use Rattle.deck_punch.specs.Cut.{SEGMENT_DIGITS, cut_piece}
 use Rattle.card_columns.specs.Orders.{nth}
 
 -- the last digit is flagged, and isn't the first

@@ -4,9 +4,15 @@ use Rattle.digit_core.specs.declared.Digit.{Digit}
 use Rattle.sps_pass_two.specs.Image.{DigitRun}
 use Rattle.deck_punch.specs.declared.form.DeckForm.{DeckForm}
 use Rattle.deck_punch.specs.declared.form.DeckForm.TheVariants.{SelfLoading, Dense}
-use Rattle.deck_punch.specs.declared.segment.TheConstants.{SEGMENT_DIGITS, DENSE_DIGITS}
 
--- how many digits a card has room for
+-- how many digits a self-loading card has room for, and a dense one
+abbrev pub SEGMENT_DIGITS : ℕ
+SEGMENT_DIGITS = 32
+
+abbrev pub DENSE_DIGITS : ℕ
+DENSE_DIGITS = 69
+
+-- the same by the form of the deck
 abbrev pub room_in : DeckForm → ℕ
 room_in SelfLoading = SEGMENT_DIGITS
 room_in Dense = DENSE_DIGITS

@@ -6,12 +6,11 @@ use Rattle.card_code.specs.Characters.{object_char}
 use Rattle.sps_pass_two.specs.Image.{DigitRun}
 use Rattle.card_columns.specs.Orders.{address, instruction_columns}
 use Rattle.deck_punch.specs.Cards.{read_and_go, transfer_card}
-use Rattle.deck_punch.specs.Cut.{cut_dense}
+use Rattle.deck_punch.specs.Cut.{SEGMENT_DIGITS, DENSE_DIGITS, cut_dense}
 use Rattle.deck_punch.specs.Deck.{cards_of}
 use Rattle.deck_punch.specs.Tables.{table_piece, other_pieces}
 use Rattle.deck_punch.specs.declared.cards.TheConstants.{READ_NUMERICALLY, BRANCH, CARD_READER}
 use Rattle.deck_punch.specs.declared.dense.TheConstants.{BUFFER_END, REPAIR_DIGIT}
-use Rattle.deck_punch.specs.declared.segment.TheConstants.{SEGMENT_DIGITS, DENSE_DIGITS}
 
 -- A dense card is read into the buffer, 00100 to 00179. Then the field that ends at 00179 moves to its address, and the digit at 00110 to
 -- the repair address. A move ends at a flag, so of the digits on the card the leftmost alone has one, and the last may; the repair puts

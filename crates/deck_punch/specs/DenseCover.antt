@@ -4,8 +4,7 @@ use Rattle.digit_core.specs.declared.Digit.{Digit}
 use Rattle.sps_pass_two.specs.Image.{DigitRun}
 use Rattle.card_columns.specs.Orders.{nth}
 use Rattle.deck_punch.specs.Cover.{Covers}
-use Rattle.deck_punch.specs.Cut.{flags_within, cut_piece_dense}
-use Rattle.deck_punch.specs.declared.segment.TheConstants.{DENSE_DIGITS}
+use Rattle.deck_punch.specs.Cut.{DENSE_DIGITS, flags_within, cut_piece_dense}
 
 -- how many digits behind the first have a flag
 abbrev pub inner_flags : List Digit → ℕ

@@ -3,7 +3,7 @@ ghost use Rattle.std.specs.Prelude.{◌≡◌, ◌+◌, ◌<◌, ◌≤◌, [], 
 ghost use Rattle.digit_core.specs.Cell.{IsGood};
 ghost use Rattle.card_code.specs.Characters.{object_char};
 ghost use Rattle.card_columns.specs.declared.columns.TheConstants.{CARD_COLUMNS};
-ghost use Rattle.deck_punch.specs.declared.segment.TheConstants.{SEGMENT_DIGITS};
+ghost use Rattle.deck_punch.specs.Cut.{SEGMENT_DIGITS};
 ghost use Rattle.card_columns.specs.Orders.{address_count};
 ghost use Rattle.deck_punch.specs.Cards.{segment_digits, card_of, transfer_card, unflagging, read_and_go};
 ghost use Rattle.deck_punch.specs.Types.{segment_run};

@@ -4,7 +4,7 @@ ghost use Rattle.std.specs.Prelude.{◌≡◌, ℕ, ◌+◌, ◌<◌, ◌≤◌,
 ghost use Rattle.digit_core.specs.Cell.{IsGood};
 ghost use Rattle.card_code.specs.Characters.{object_char};
 ghost use Rattle.card_columns.specs.declared.columns.TheConstants.{CARD_COLUMNS};
-ghost use Rattle.deck_punch.specs.declared.segment.TheConstants.{DENSE_DIGITS};
+ghost use Rattle.deck_punch.specs.Cut.{DENSE_DIGITS};
 ghost use Rattle.card_columns.specs.Orders.{address_count};
 ghost use Rattle.deck_punch.specs.Dense.{dense_card_of, dense_digits, repair, repair_digits, digits_on_card, place_of_repair, loader_card, bridge_card};
 ghost use Rattle.deck_punch.specs.Types.{segment_run};

@@ -3,7 +3,7 @@
 use card_code::Card;
 use card_unit::Hopper;
 use cpu_step::{Machine, Mode, Turned};
-use digit_core::{CellFault, Digit, standard_digit};
+use digit_core::{CellFault, Core, Digit, standard_digit};
 use disk_loader::{bootstrap, sector_count, sector_text, write_sectors};
 use outside_io::{MemHost, Sent};
 use sps_pass_two::{Assembled, assemble};
@@ -20,6 +20,13 @@ fn assembled(alloc: Global, lines: &[&str], two: bool) -> Result<Assembled, Fail
     }
     let positions = if two { 40_000 } else { 20_000 };
     Ok(assemble(alloc, source.as_slice(), positions)?)
+}
+
+// Gives every cell even parity.
+fn spoil(core: &mut Core<2>) {
+    for a in 0..40_000u32 {
+        core.flip(a, 0);
+    }
 }
 
 const PAYROLL: &[&str] = &[
@@ -110,9 +117,7 @@ fn a_stretch_ends_with_its_cylinder(rt: HostRuntime) -> Result<(), Fail> {
     let mut host = MemHost::new(rt.alloc(), 0)?;
     assert!(rt; write_sectors(&program, &mut host) == Sent::Done);
     let mut machine = Machine::<2>::power_on(rt.alloc(), Hopper::of_cards(cards))?;
-    for a in 0..40_000u32 {
-        machine.core.flip(a, 0);
-    }
+    spoil(&mut machine.core);
     let mut last = machine.load_key(&mut host);
     for _step in 0..13u32 {
         if machine.is_running() {

@@ -3,7 +3,7 @@
 use card_code::Card;
 use card_unit::Hopper;
 use cpu_step::{Machine, Mode, Turned};
-use digit_core::{CellFault, Digit, standard_digit};
+use digit_core::{CellFault, Core, Digit, standard_digit};
 use loader_cards::{DeckForm, deck_steps, object_deck};
 use outside_io::MemHost;
 use sps_pass_two::{Assembled, assemble};
@@ -87,14 +87,19 @@ fn plain(value: u8) -> Digit {
     Digit { flag: false, value }
 }
 
+// Gives every cell even parity.
+fn spoil(core: &mut Core<1>) {
+    for a in 0..20_000u32 {
+        core.flip(a, 0);
+    }
+}
+
 // The machine once a program's deck was loaded over a core in which every cell has even parity: it runs at the start.
 fn loaded(alloc: Global, program: &Assembled, form: DeckForm) -> Result<Machine<1>, Fail> {
     let cards = object_deck(alloc, program, form)?;
     let steps = deck_steps(cards.len() as u64, form);
     let mut machine = Machine::<1>::power_on(alloc, Hopper::of_cards(cards))?;
-    for a in 0..20_000u32 {
-        machine.core.flip(a, 0);
-    }
+    spoil(&mut machine.core);
     let mut host = MemHost::new(alloc, 0)?;
     let mut last = machine.load_key(&mut host);
     for _step in 0..steps {

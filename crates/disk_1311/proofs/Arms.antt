@@ -19,7 +19,7 @@ use Rattle.disk_1311.specs.declared.DiskKind.TheVariants.{Rdgn, Cdgn, Rdn, Cdn, 
 use Rattle.disk_1311.proofs.SectorsMoved.{writing}
 use Rattle.disk_1311.proofs.Effects.{IsLights}
 use Rattle.disk_1311.proofs.Checks.{check_lights}
-use Rattle.indicators.specs.declared.codes.TheConstants.{DISK_ADDRESS}
+use Rattle.indicators.specs.Codes.{DISK_ADDRESS}
 
 -- no effect moves an arm
 abbrev IsStill : List DiskEffect → Type 0

@@ -17,7 +17,7 @@ use Rattle.disk_1311.specs.declared.DiskKind.{DiskKind}
 use Rattle.disk_1311.specs.declared.DiskIo.{DiskIo}
 use Rattle.disk_1311.specs.declared.DiskIo.TheVariants as io
 use Rattle.disk_1311.proofs.Effects.{IsLights, lights_done}
-use Rattle.indicators.specs.declared.codes.TheConstants.{DISK_LENGTH}
+use Rattle.indicators.specs.Codes.{DISK_LENGTH}
 
 -- the check by its tests: the form, the place, what is read, the mark
 abbrev by_mark : Bool → Trace DiskEffect ⊤ Stop

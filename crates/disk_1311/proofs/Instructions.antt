@@ -10,7 +10,7 @@ use Rattle.disk_1311.specs.Sector.{SetsArm, alarm_first}
 use Rattle.disk_1311.specs.Disk.{seek, transfer, is_there, cylinder_of, transfer_trace}
 use Rattle.disk_1311.specs.declared.control.TheConstants.{DRIVE_SECTORS}
 use Rattle.disk_1311.specs.declared.DiskKind.{DiskKind}
-use Rattle.indicators.specs.declared.codes.TheConstants.{DISK_ADDRESS}
+use Rattle.indicators.specs.Codes.{DISK_ADDRESS}
 
 module _ (core : List ℕ) (p : ℕ) (arms : List ℕ) where
   -- the control field stops

@@ -20,7 +20,7 @@ use Rattle.card_code.specs.Words.{AreCells}
 use Rattle.card_code.proofs.TextsStored.{Rest}
 use Rattle.card_code.proofs.InParts.{after_part, broken_part}
 use Rattle.disk_1311.specs.Sector.{read_sector, compare_sector, store_byte, differs}
-use Rattle.indicators.specs.declared.codes.TheConstants.{DISK_LENGTH}
+use Rattle.indicators.specs.Codes.{DISK_LENGTH}
 
 -- A byte, and then the bytes behind it.
 byte_then : (a : ℕ) (o : Option Digit) (es : List Change) (answer : Result ⊤ Stop) (r : Trace Change ⊤ Stop)

@@ -14,7 +14,7 @@ use Rattle.traces.specs.Change.{Change, Changed}
 use Rattle.card_code.specs.Characters.{object_digit, object_char}
 use Rattle.card_code.proofs.TextsStored.{Rest}
 use Rattle.disk_1311.specs.Sector.{read_sector, compare_sector, differs}
-use Rattle.indicators.specs.declared.codes.TheConstants.{DISK_LENGTH}
+use Rattle.indicators.specs.Codes.{DISK_LENGTH}
 
 -- Some cells and a panel, with k bytes of a sector done from a upwards.
 module _ (core start : List ℕ) (panel start_panel : Panel) (whole : Trace Change ⊤ Stop) (a k : ℕ) (bytes : List ℕ) where

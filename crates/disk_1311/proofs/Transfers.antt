@@ -25,7 +25,7 @@ use Rattle.outside_io.proofs.Packs.{whole_text}
 use Rattle.disk_1311.proofs.Effects.{done_on, length_left}
 use Rattle.disk_1311.proofs.SectorsMoved.{sectors_left-alters, writing}
 use Rattle.disk_1311.proofs.Checks.{told_or, check_lights, looks_all}
-use Rattle.indicators.specs.declared.codes.TheConstants.{CYLINDER_OVERFLOW}
+use Rattle.indicators.specs.Codes.{CYLINDER_OVERFLOW}
 
 -- A sector that moves leaves those behind it.
 behind_written : (h k : ℕ) (s : ℕ → List ℕ) (r : Result (List Digit) Stop) → h < k → sectors_left s (writing h r).effects k ≡ s k

@@ -13,12 +13,12 @@ use Rattle.disk_1311.specs.Control.{control_field}
 use Rattle.disk_1311.specs.Sector.{DiskEffect, Alters, SetsArm, alarm_first, then_with, read_sector, compare_sector, write_sector}
 use Rattle.disk_1311.specs.declared.DiskKind.{DiskKind}
 use Rattle.disk_1311.specs.declared.DiskKind.TheVariants.{Rdgn, Cdgn, Rdn, Cdn, Wdgn, Wdn}
-use Rattle.disk_1311.specs.declared.control.TheConstants.{DRIVE_SECTORS, CYLINDER_SECTORS}
-use Rattle.indicators.specs.declared.codes.TheConstants.{CYLINDER_OVERFLOW, DISK_ADDRESS, DISK_LENGTH}
+use Rattle.disk_1311.specs.declared.control.TheConstants.{DRIVE_SECTORS}
+use Rattle.indicators.specs.Codes.{CYLINDER_OVERFLOW, DISK_ADDRESS, DISK_LENGTH}
 
--- the cylinder of a sector
+-- the cylinder of a sector; a cylinder has 200 sectors
 abbrev pub cylinder_of : ℕ → ℕ
-cylinder_of sector = sector / CYLINDER_SECTORS
+cylinder_of sector = sector / 200
 
 -- the host's sector of a drive's sector
 abbrev pub host_sector : ℕ → ℕ → ℕ

@@ -5,7 +5,7 @@ use Rattle.std.specs.Prelude.{None, ◌||◌}
 use Rattle.digit_core.specs.declared.Digit.{Digit}
 use Rattle.indicators.specs.declared.Panel.{Panel}
 use Rattle.indicators.specs.Panel.{set}
-use Rattle.indicators.specs.declared.codes.TheConstants.{LAST_CARD}
+use Rattle.indicators.specs.Codes.{LAST_CARD}
 use Rattle.branch_ops.specs.Registers.{on_at}
 use Rattle.card_code.specs.Characters.{object_char}
 use Rattle.card_code.specs.Entries.{Entry, Text, has_none_left}

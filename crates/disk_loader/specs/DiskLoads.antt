@@ -4,7 +4,7 @@ use Rattle.std.specs.List.{All}
 use Rattle.digit_core.specs.Size.{IsSize, size}
 use Rattle.outside_io.specs.World.{pack_sector_text}
 use Rattle.indicators.specs.Panel.{set}
-use Rattle.indicators.specs.declared.codes.TheConstants.{LAST_CARD}
+use Rattle.indicators.specs.Codes.{LAST_CARD}
 use Rattle.branch_ops.specs.Registers.{on_at}
 use Rattle.card_code.specs.Entries.{Entry, Text, has_none_left}
 use Rattle.disk_1311.specs.declared.TheConstants.{DRIVES}

@@ -9,8 +9,7 @@ use Rattle.addr_indirect.specs.declared.Stop.TheVariants.{Address}
 use Rattle.addr_indirect.specs.Reading.{read_at}
 use Rattle.traces.specs.Trace.{Trace}
 use Rattle.traces.specs.Stored.{Stored, Did, Rest}
-use Rattle.feature_ops.specs.declared.TheConstants.{NUMBER_ZONE}
-use Rattle.feature_ops.specs.Feature.{move_flag, strip_cycles, fill_cycles, core_with_pair}
+use Rattle.feature_ops.specs.Feature.{NUMBER_ZONE, move_flag, strip_cycles, fill_cycles, core_with_pair}
 
 -- the number of positions left behind so many cycles
 pub left_more : (a i : ℕ) → i < a → a - i ≡ suc (a - i - 1)

@@ -8,7 +8,7 @@ use Rattle.digit_core.specs.Search.{is_bad_cell}
 use Rattle.digit_core.specs.Within.{AreGoodUpTo}
 use Rattle.digit_core.proofs.SoundCore.{good_cell, good_value}
 use Rattle.feature_ops.specs.declared.fives.Turn.{Turn}
-use Rattle.feature_ops.specs.declared.TheConstants.{NUMBER_ZONE}
+use Rattle.feature_ops.specs.Feature.{NUMBER_ZONE}
 use Rattle.feature_ops.specs.Five.{AreStripped, AreFilled, AreLastStripped, AreLastFilled, flagged_digit, Strips, Fills}
 
 -- the good cell of what another good cell holds, with a flag or without

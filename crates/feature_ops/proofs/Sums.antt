@@ -3,7 +3,7 @@ use Rattle.std.proofs.Common.{ℕ, zero, suc, ◌≡◌, ◌+◌, ◌*◌, ◌/�
 use lib.Count.{ones}
 use Rattle.digit_core.specs.Cell.{cell, unflagged_digit}
 use Rattle.digit_core.specs.Packed.{six}
-use Rattle.feature_ops.specs.declared.TheConstants.{NUMBER_ZONE}
+use Rattle.feature_ops.specs.Feature.{NUMBER_ZONE}
 use Rattle.feature_ops.specs.Five.{AreOdd, AreZoned}
 
 module _ (a b c d e : ℕ) (la : a < 64) (lb : b < 64) (lc : c < 64) (ld : d < 64) (le : e < 64) where

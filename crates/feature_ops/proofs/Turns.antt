@@ -17,8 +17,7 @@ use Rattle.addr_indirect.specs.Reading.{read_at}
 use Rattle.addr_indirect.proofs.Windows.{reads_in}
 use Rattle.traces.specs.Trace.{Trace}
 use Rattle.traces.specs.Stored.{Stored, Did, Rest}
-use Rattle.feature_ops.specs.declared.TheConstants.{NUMBER_ZONE}
-use Rattle.feature_ops.specs.Feature.{strip_cycles, fill_cycles, core_with_pair}
+use Rattle.feature_ops.specs.Feature.{NUMBER_ZONE, strip_cycles, fill_cycles, core_with_pair}
 use Rattle.feature_ops.specs.Five.{IsPlain, IsFlagged, flagged_digit, ArePairsApart, AreStripped, AreFilled, AreLastStripped, AreLastFilled}
 
 -- who does the rest does the whole

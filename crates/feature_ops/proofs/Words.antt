@@ -9,7 +9,7 @@ use Rattle.digit_core.specs.Within.{AreGood, AreGoodUpTo}
 use Rattle.digit_core.specs.Written.{core_with_word}
 use Rattle.digit_core.proofs.Sixes.{six_of_high, six_of_low}
 use Rattle.digit_core.proofs.Writing.{written_out}
-use Rattle.feature_ops.specs.declared.TheConstants.{NUMBER_ZONE}
+use Rattle.feature_ops.specs.Feature.{NUMBER_ZONE}
 use Rattle.feature_ops.specs.declared.fives.Turn.{Turn}
 use Rattle.feature_ops.specs.Five.{AreOdd, AreZoned, IsPlain, IsFlagged, ArePairsApart, AreStillApart, EndsAmong, AreStripped, AreLastStripped, AreLastFilled, FiveAreGood, Strips, StripsOf, IsNextTen, Fills, FillsOf}
 use Rattle.feature_ops.proofs.Flags.{flag_turns, joined, joined_low, joined_high}

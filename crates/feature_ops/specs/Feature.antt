@@ -8,7 +8,13 @@ use Rattle.instruction_table.specs.declared.FeatureOp.{FeatureOp}
 use Rattle.instruction_table.specs.declared.FeatureOp.TheVariants.{Mf, Tns, Tnf}
 use Rattle.traces.specs.Trace.{Trace, ends, ◌>>=◌}
 use Rattle.traces.specs.Stored.{Stored, stores}
-use Rattle.feature_ops.specs.declared.TheConstants.{NUMBER_ZONE, NEGATIVE_ZONE}
+
+-- the zone of a number's digit, and the zone at the units of a negative number
+abbrev pub NUMBER_ZONE : ℕ
+NUMBER_ZONE = 7
+
+abbrev pub NEGATIVE_ZONE : ℕ
+NEGATIVE_ZONE = 5
 
 -- MF: the digit at P gets the flag of the one at Q, which loses it
 abbrev pub move_flag : List ℕ → ℕ → ℕ → Trace Stored ⊤ Stop

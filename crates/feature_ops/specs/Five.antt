@@ -4,7 +4,7 @@ use Rattle.digit_core.specs.declared.Digit.{Digit}
 use Rattle.digit_core.specs.Cell.{cell, unflagged_digit, has_flag, value_in}
 use Rattle.digit_core.specs.Packed.{six, HasCells}
 use Rattle.digit_core.specs.Search.{is_bad_cell}
-use Rattle.feature_ops.specs.declared.TheConstants.{NUMBER_ZONE}
+use Rattle.feature_ops.specs.Feature.{NUMBER_ZONE}
 use Rattle.digit_core.specs.Within.{AreGood}
 use Rattle.feature_ops.specs.declared.fives.Turn.{Turn}
 

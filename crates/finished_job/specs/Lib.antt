@@ -1,4 +1,4 @@
 pub mod Pieces
 pub mod Said
 pub mod Lost
-pub mod Finished
+pub mod WholeJob

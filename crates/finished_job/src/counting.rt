@@ -6,8 +6,8 @@ ghost use Rattle.outside_io.specs.World.{IsFresh};
 ghost use Rattle.outside_io.specs.declared.host.Unit.TheVariants.{Punched};
 ghost use Rattle.finished_job.specs.Lost.{cards_in_bytes, lost_bytes};
 
-use crate::finishing::Finishes;
-use outside_io::{Bound, Drive, Host, Put, SECTOR_LENGTH, Sent, Take, Trouble, Unit};
+use crate::trouble::TellsTrouble;
+use outside_io::{Bound, Drive, Host, Put, SECTOR_LENGTH, Take, Trouble, Unit};
 
 // How many bytes a card is punched as: those of its 80 columns, and a line feed.
 const CARD_BYTES: u64 = 81;
@@ -87,11 +87,7 @@ impl<H: Host> Host for Counting<H> {
     }
 }
 
-impl<H: Finishes> Finishes for Counting<H> {
-    fn finish(&mut self) -> Sent {
-        self.host.finish()
-    }
-
+impl<H: TellsTrouble> TellsTrouble for Counting<H> {
     fn trouble(&self) -> Option<&Trouble> {
         self.host.trouble()
     }

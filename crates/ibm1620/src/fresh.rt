@@ -1,4 +1,4 @@
-// The texts of a source that a job without success leaves empty, where no such file was there before.
+// New files of a source's texts, which a job that ends before it makes the texts leaves empty.
 use command_line::Read;
 use outside_io::Unit;
 use std::fs;

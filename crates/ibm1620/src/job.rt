@@ -6,8 +6,8 @@ use command_line::Read;
 use finished_job::{Counting, Sink, do_read_job};
 use outside_io::RealHost;
 
-// Does what the words say over files, says on `errors` what there is to say of it, and answers the code. The texts of a source that a job
-// without success leaves empty are removed.
+// Does what the words say over files, says on `errors` what there is to say of it, and answers the code. A job that ends before it makes the
+// texts of its source leaves no new empty file for them.
 pub(crate) fn do_over_files<S: Sink>(
     rt: &HostRuntime,
     words: &[String],
@@ -18,8 +18,14 @@ pub(crate) fn do_over_files<S: Sink>(
     let fresh = Fresh::before(rt, &read);
     let mut host = Counting::over(RealHost::with_pack_room(rt, room));
     let code = do_read_job(rt.alloc(), &read, is_asked(rt), &mut host, errors);
-    if code != 0 {
+    if ends_before_texts(code) {
         fresh.remove_empty(rt);
     }
     Ok(code)
+}
+
+// Whether a job with this code may have ended before it made the texts of its source: for the source itself, its length, the script or the
+// commands, or because the host failed or had no memory. With any other code an empty image is the right one.
+fn ends_before_texts(code: u8) -> bool {
+    matches!(code, 1 | 7 | 8 | 10 | 11 | 13)
 }

@@ -3,7 +3,8 @@ use Rattle.std.proofs.Common.{◌≡◌, ℕ, ◌≤◌, Bool, true, List, [], �
 use Rattle.std.proofs.lemmas.List.{append-nil}
 use Rattle.std.specs.Prelude.{Option, Some, None, is_some, IfSome, option_map}
 use Rattle.outside_io.specs.declared.host.Unit as unit
-use Rattle.outside_io.specs.World.{World, Seen, Rose}
+use Rattle.outside_io.specs.declared.host.Unit.TheVariants as units
+use Rattle.outside_io.specs.World.{World, Seen, Rose, same_unit}
 use Rattle.outside_io.specs.Frame.{Keeps}
 use Rattle.outside_io.specs.Events.{Event, after_events, DidAll}
 use Rattle.outside_io.proofs.EventLemmas.{after_append, did_on, first_on, first_more}
@@ -340,6 +341,7 @@ module _ {A : Type 0} (m steps limit : ℕ) (own : Option (List (List ℕ))) (be
       for_turns new answer taken =
           promise_run m limit own before loaded_machine told ready taken.left script taken.left_script base ready_at taken.mid (omega (arith, later, frames.later)) (λ a. omega arith) is_first did_ready
           (λ a. steps_loaded m steps start.world (lines_left script) (pile_of a) (cards_of a) (feed_of a)) reads_ready none
+          (λ u silent. frames.keeps.written u (neither (is_written u) (same_unit units.Report u) silent).0 ∙ ap (λ (written : unit.Unit → Option (List ℕ)). written u) did.written)
           taken.steps taken.how taken.runs new answer taken.reports taken.shows
 
   -- all its ends

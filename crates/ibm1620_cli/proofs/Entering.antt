@@ -8,7 +8,7 @@ use Rattle.indicators.specs.declared.Panel.{Panel}
 use Rattle.indicators.specs.Panel.{dark, set}
 use Rattle.indicators.specs.Lamps.{panel_for_load}
 use Rattle.card_code.specs.Entries.{entries_of_unit, has_none_left}
-use Rattle.indicators.specs.declared.codes.TheConstants.{LAST_CARD}
+use Rattle.indicators.specs.Codes.{LAST_CARD}
 use Rattle.cpu_step.specs.State.{UnitTexts, State}
 use Rattle.loader_cards.specs.Loads.{LoadsOver}
 use Rattle.ibm1620_cli.proofs.Forms.{loads_in, loaded_in}

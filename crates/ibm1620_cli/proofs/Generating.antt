@@ -47,4 +47,4 @@ module _ (settings : Settings) (start : Seen) where
         inputs = unasked (text_takes units.Made source) (λ u read. ap (λ (w : World). w.asked u) goes.world) refl;
         refusal = λ other. tt;
         program = refl;
-      }) reports
+      }) tt reports

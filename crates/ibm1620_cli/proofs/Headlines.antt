@@ -1,12 +1,13 @@
 -- The headline, by what the program tells.
 use Rattle.deck_punch.specs.declared.form.DeckForm.{DeckForm}
-use Rattle.std.proofs.Common.{◌≡◌, ◌≢◌, ℕ, true, List, [], ◌∷◌, ◌++◌, refl, sym, append_assoc, ap, subst, ◌∙◌, arith, inl, inr}
+use Rattle.std.proofs.Common.{◌≡◌, ◌≢◌, ℕ, Bool, true, false, List, [], ◌∷◌, ◌++◌, refl, sym, append_assoc, ap, subst, ◌∙◌, arith, inl, inr}
 use Rattle.std.specs.Prelude.{Option, Some, None, IfSome, option_map, option_and_then, Result, Ok}
+use Rattle.std.proofs.lemmas.Bool.{true≢false}
 use Rattle.outside_io.specs.declared.host.Unit as unit
 use Rattle.outside_io.specs.declared.host.Unit.TheVariants as units
 use Rattle.outside_io.specs.declared.host.TheConstants.{UNIT_COUNT}
 use Rattle.outside_io.specs.World.{World, Seen, Rose, IsFresh, HasNoText, all_units}
-use Rattle.outside_io.specs.Events.{Event, after_events, text_events, DidAll}
+use Rattle.outside_io.specs.Events.{Event, after_events, text_events, DidAll, DidPart}
 use Rattle.outside_io.proofs.EventLemmas.{after_append}
 use Rattle.digit_core.specs.Size.{IsSize, size}
 use Rattle.cpu_step.specs.State.{State}
@@ -25,10 +26,10 @@ use Rattle.command_line.specs.declared.words.CoreSize.{CoreSize}
 use Rattle.command_line.specs.declared.words.CoreSize.TheVariants.{OneModule, TwoModules, ThreeModules}
 use Rattle.ibm1620_cli.specs.declared.status.Status.{Status}
 use Rattle.ibm1620_cli.specs.declared.answer.Answer.{Answer}
-use Rattle.ibm1620_cli.specs.declared.status.Status.TheVariants.{OutOfMemory}
+use Rattle.ibm1620_cli.specs.declared.status.Status.TheVariants.{HostFault, OutOfMemory}
 use Rattle.ibm1620_cli.specs.Report.{report_line}
 use Rattle.ibm1620_cli.specs.Binding.{all_bound}
-use Rattle.ibm1620_cli.specs.Promise.{Job, job_read, job_behind, job_with_program, EndsWithAnswer, is_own, InputTexts, world_with_texts, AreTold}
+use Rattle.ibm1620_cli.specs.Promise.{Job, job_read, job_behind, job_with_program, EndsWithAnswer, StopsAt, is_own, InputTexts, world_with_texts, AreTold}
 use Rattle.ibm1620_cli.specs.Turns.{MachineFeed, SetUp, ends_a_run, state_over, first_over, turns_job}
 use Rattle.ibm1620_cli.specs.Program.{Program, Fits, deck_of, loaded_by, set_up_at_power_on, set_up_after_load, set_up_at_start}
 use Rattle.ibm1620_cli.specs.Source.{source_read, program_of, texts_of_program, made_of, made_events, promise_by, running_promise, assembly_promise}
@@ -71,6 +72,14 @@ bind_bytes u v (Some name) ds = refl
 binds_bytes : (u : unit.Unit) (us : List unit.Unit) (names : Names) (ds : List Event) → bytes_in u (bind_events us names ++ ds) ≡ bytes_in u ds
 binds_bytes u [] names ds = refl
 binds_bytes u (v ∷ us) names ds = ap (bytes_in u) (append_assoc (bind_event v (names v)) (bind_events us names) ds) ∙ bind_bytes u v (names v) (bind_events us names ++ ds) ∙ binds_bytes u us names ds
+
+-- the two statuses that are no end of a job's own differ
+abbrev is_host_fault : Status → Bool
+is_host_fault HostFault = true
+is_host_fault status = false
+
+memory_is_no_fault : OutOfMemory ≡ HostFault → ⊥
+memory_is_no_fault same = true≢false (sym (ap is_host_fault same))
 
 -- behind all bindings each told text is what the events write on its unit, where no text had a byte
 pub texts_behind : (names : Names) (ds : List Event) (old new : World) → HasNoText old → AreWrites ds → DidAll (bind_events all_units names ++ ds) old new → (u : unit.Unit) → IfSome (new.written u) (λ text. text ≡ bytes_in u (bind_events all_units names ++ ds))
@@ -170,16 +179,28 @@ module _ (words : List (List ℕ)) (old new : Seen) (answer : Answer) (r : Sound
     ending = subst (λ (s : Status). ends_a_run s ≡ true) (sym does.status) (own_ends (last_place r.said.settings.limit place).steps (ending_of (last_place r.said.settings.limit place).state) (subst (λ (s : Status). is_own s ≡ true) does.status own));
   }
 
-  of_said : IsFresh old.world → DoesSaid r.said old new answer → (Rose old.faults new.faults → ⊥) → answer.status ≢ OutOfMemory → DoesProgram old r new answer
-  of_said fresh kept none found = elim kept.keeps [
+  -- after a host fault the count rose, and a first part of the job was done
+  fault_said : DoesSaid r.said old new answer → answer.status ≡ HostFault → Rose old.faults new.faults × DidPart (job_in r).events old.world new.world
+  fault_said kept failed = elim kept.keeps [
+    | inl own ↦ absurd (true≢false (sym own.own ∙ ap is_own failed))
+    | inr (inl fault) ↦ (fault.rose, (subst (λ (o : Option Job). IfSome o (λ j. StopsAt j answer.console old.world new.world)) (entered_is kept.texts kept.told) fault.part).did)
+    | inr (inr lacks) ↦ absurd (memory_is_no_fault (sym (ap (λ (a : Answer). a.status) lacks.plain) ∙ failed))
+  ]
+
+  pub fault_told : TellsAnswer words old new answer → answer.status ≡ HostFault → Rose old.faults new.faults × DidPart (job_in r).events old.world new.world
+  fault_told (inl does) failed = fault_said (subst (λ (o : Option WordsSaid). DoesWords o old new answer) r.said_is does) failed
+  fault_told (inr lacks) failed = absurd (memory_is_no_fault (sym lacks.0.lacks ∙ failed))
+
+  of_said : IsFresh old.world → DoesSaid r.said old new answer → answer.status ≢ HostFault → answer.status ≢ OutOfMemory → DoesProgram old r new answer
+  of_said fresh kept unfailed found = elim kept.keeps [
     | inl own ↦ by_does fresh own.own (subst (λ (o : Option Job). IfSome o (λ j. EndsWithAnswer j old new answer)) (entered_is kept.texts kept.told) own.all)
-    | inr (inl fault) ↦ absurd (none fault.rose)
+    | inr (inl fault) ↦ absurd (unfailed fault.status)
     | inr (inr lacks) ↦ absurd (found (ap (λ (a : Answer). a.status) lacks.plain))
   ]
 
-  pub of_told : IsFresh old.world → TellsAnswer words old new answer → (Rose old.faults new.faults → ⊥) → answer.status ≢ OutOfMemory → DoesProgram old r new answer
-  of_told fresh (inl does) none found = of_said fresh (subst (λ (o : Option WordsSaid). DoesWords o old new answer) r.said_is does) none found
-  of_told fresh (inr lacks) none found = absurd (found lacks.0.lacks)
+  pub of_told : IsFresh old.world → TellsAnswer words old new answer → answer.status ≢ HostFault → answer.status ≢ OutOfMemory → DoesProgram old r new answer
+  of_told fresh (inl does) unfailed found = of_said fresh (subst (λ (o : Option WordsSaid). DoesWords o old new answer) r.said_is does) unfailed found
+  of_told fresh (inr lacks) unfailed found = absurd (found lacks.0.lacks)
 
 pub headline_told : (words : List (List ℕ)) (old new : Seen) (answer : Answer) → IsFresh old.world → TellsAnswer words old new answer → Headline words old new answer
-headline_told words old new answer fresh tells r none found = of_told words old new answer r fresh tells none found
+headline_told words old new answer fresh tells r unfailed found = of_told words old new answer r fresh tells unfailed found

@@ -43,7 +43,7 @@ some_first (suc n) (u ∷ us) names = first_on (bind_event u (names u)) (bind_ev
 pub usage_said : (old new : Seen) (status : Status) → Reports old new Usage status → KeepsPromise usage_promise old new (answer_of status)
 usage_said old new status reports =
     promise_report usage_promise old old new Usage (report_line Usage) (answer_of status) (omega arith) refl refl (λ is. refl) refl
-    (record { before = []; status_is = refl; events_are = refl; did = did_none old.world; leaves = refl; inputs = unasked (refl, refl) (λ u read. refl) refl; refusal = λ other. tt; program = refl }) reports
+    (record { before = []; status_is = refl; events_are = refl; did = did_none old.world; leaves = refl; inputs = unasked (refl, refl) (λ u read. refl) refl; refusal = λ other. tt; program = refl }) tt reports
 
 pub usage_binds : (old new : Seen) (answer : Status) → Reports old new Usage answer → BindsNamed no_names old.world new.world answer
 usage_binds old new answer reports =

@@ -1,24 +1,25 @@
 -- How the promise of a job is kept: what its parts do, one behind the other.
 use Rattle.std.proofs.Common.{◌≡◌, ℕ, ◌≤◌, ◌+◌, Bool, true, false, ◌||◌, List, [], ◌∷◌, ◌++◌, refl, sym, ◌∙◌, ap, subst, append_assoc, arith, inl, inr}
 use Rattle.std.proofs.lemmas.Bool.{true≢false}
-use Rattle.std.specs.Prelude.{◌≢◌, ◌⊎◌, Option, Some, None, IfSome, option_map}
+use Rattle.std.specs.Prelude.{◌≢◌, ◌⊎◌, Option, Some, None, IfSome, option_map, if◌then◌else◌}
 use Rattle.outside_io.specs.declared.host.Unit as unit
 use Rattle.outside_io.specs.declared.host.Unit.TheVariants as units
 use Rattle.outside_io.specs.World.{World, Asked, Seen, Rose, Goes, same_unit, world_after_put}
 use Rattle.outside_io.proofs.InMemory.{same_unit-eq}
 use Rattle.outside_io.proofs.Worlds.{added_to-nil}
 use Rattle.cpu_step.specs.declared.console.Console.{Console}
+use Rattle.cpu_step.specs.Machine.{is_written}
 use Rattle.sps_listing.specs.declared.standing.StandingLine.{StandingLine}
 use Rattle.ibm1620_cli.specs.declared.status.Status.{Status}
 use Rattle.ibm1620_cli.specs.declared.status.Status.TheVariants.{HostFault, OutOfMemory}
 use Rattle.ibm1620_cli.specs.declared.answer.Answer.{Answer}
 use Rattle.ibm1620_cli.specs.Report.{report_line}
 use Rattle.outside_io.specs.Whole.{Stops}
-use Rattle.outside_io.specs.Events.{Event, text_events, IsFirstPart, DidAll}
-use Rattle.outside_io.proofs.EventLemmas.{did_on, did_text, first_none, first_on, first_text, FailsWithin}
+use Rattle.outside_io.specs.Events.{Event, after_events, text_events, IsFirstPart, DidAll}
+use Rattle.outside_io.proofs.EventLemmas.{same_of, did_on, did_text, first_none, first_on, first_text, FailsWithin}
 use Rattle.ibm1620_cli.specs.Makings.{AreMakings}
 use Rattle.ibm1620_cli.specs.Inputs.{EndsOnce, reads_nothing, reads_feed, reads_both}
-use Rattle.ibm1620_cli.specs.Promise.{ProgramTexts, Job, job_ending, job_behind, LeavesMachine, ShowsRefusal, ShowsStatement, EndsWithAnswer, TakesNone, Unasked, AsksForInputs, StopsAt, answer_of, texts_alone, Promise, promise_behind, KeepsPromise, is_own, is_usage}
+use Rattle.ibm1620_cli.specs.Promise.{ProgramTexts, Job, job_ending, job_behind, LeavesMachine, ShowsRefusal, ShowsStatement, EndsWithAnswer, TakesNone, Unasked, AsksForInputs, StopsAt, answer_of, texts_alone, Promise, promise_behind, KeepsPromise, is_own, is_usage, Outline, outline_after, KeepsOutline}
 use Rattle.ibm1620_cli.specs.Parts.{ReportsAs, Reports, IsAlone, LeavesUnread}
 use Rattle.ibm1620_cli.proofs.ToldValues.{if_some, all_some}
 use Rattle.ibm1620_cli.proofs.TakenInputs.{takes_before, makings_take, unasked_on, asks_on, asks_behind, stops_unasked}
@@ -160,10 +161,25 @@ stops_reported j before line shown start mid new is did inputs stops = record {
 pub no_fault : (answer : Answer) (status : Status) → is_own status ≡ true → answer.status ≡ status → answer.status ≢ HostFault
 no_fault answer status own is fault = true≢false (sym own ∙ ap is_own (sym is ∙ fault))
 
+-- another unit is as it was
+pub other_left : {A : Type 0} (same : Bool) (old new : A) → same ≡ false → (if same then new else old) ≡ old
+other_left true old new other = cc
+other_left false old new other = refl
+
+-- what is known of a job stays so while a line is reported
+pub outline_reported : (c : Option Outline) (start : World) (mid new : Seen) (status : Status) (line : List ℕ) → Goes mid new (world_after_put units.Report line mid.world) → IfSome c (λ o. KeepsOutline o start mid.world status) → IfSome c (λ o. KeepsOutline o start new.world status)
+outline_reported c start mid new status line goes keeps = if_some c (λ o k. record {
+  ends = k.ends;
+  written = λ u silent.
+      ap (λ (w : World). w.written u) goes.world
+      ∙ other_left (same_unit units.Report u) (mid.world.written u) (option_map (λ text. text ++ line) (mid.world.written u)) (neither (is_written u) (same_unit units.Report u) silent).1
+      ∙ k.written u silent;
+}) keeps
+
 -- the last line is reported
 pub promise_report : (c : Promise) (start mid new : Seen) (status : Status) (line : List ℕ) (answer : Answer) → start.faults ≤ mid.faults → is_own status ≡ true → is_usage status ≡ c.usage
-    → (answer.status ≡ HostFault → answer.refusal ≡ None) → answer.statement ≡ None → IfSome c.job (λ j. ReadyJob j status line answer start.world mid.world) → ReportsAs mid new status line answer.status → KeepsPromise c start new answer
-promise_report c start mid new status line answer later own usage_is unshown unstated ready (inl done) = inl (record {
+    → (answer.status ≡ HostFault → answer.refusal ≡ None) → answer.statement ≡ None → IfSome c.job (λ j. ReadyJob j status line answer start.world mid.world) → IfSome c.outline (λ o. KeepsOutline o start.world mid.world status) → ReportsAs mid new status line answer.status → KeepsPromise c start new answer
+promise_report c start mid new status line answer later own usage_is unshown unstated ready known (inl done) = inl (record {
   own = ap is_own done.0 ∙ own;
   usage_is = ap is_usage done.0 ∙ usage_is;
   all = if_some c.job (λ j r. record {
@@ -174,8 +190,9 @@ promise_report c start mid new status line answer later own usage_is unshown uns
     refusal = r.refusal (no_fault answer status own done.0);
     statement = unstated_shows j.program answer.console answer.statement r.program unstated;
   }) ready;
+  outline = subst (λ (s : Status). IfSome c.outline (λ o. KeepsOutline o start.world new.world s)) (sym done.0) (outline_reported c.outline start.world mid new status line done.1 known);
 })
-promise_report c start mid new status line answer later own usage_is unshown unstated ready (inr stops) = inr (inl (record {
+promise_report c start mid new status line answer later own usage_is unshown unstated ready known (inr stops) = inr (inl (record {
   status = stops.0;
   refusal = unshown stops.0;
   statement = unstated;
@@ -246,6 +263,19 @@ module _ (before : List Event) (old mid new : Seen) (did : DidAll before old.wor
   own_on None answer all = tt
   own_on (Some j) answer all = record { status = all.status; did = did_on before j.events old.world mid.world new.world did all.did; rest = all.rest; refusal = all.refusal; statement = all.statement }
 
+  -- what is known of a job
+  pub outline_since : (o : Outline) (status : Status) → KeepsOutline o mid.world new.world status → KeepsOutline (outline_after before o) old.world new.world status
+  outline_since o status keeps =
+      let there : World = after_events mid.world o.before in
+      record {
+        ends = keeps.ends;
+        written = λ u silent. keeps.written u silent ∙ ap (λ (written : unit.Unit → Option (List ℕ)). written u) (did_on before o.before old.world mid.world there did (same_of there there refl)).written;
+      }
+
+  pub outline_on : (c : Option Outline) (status : Status) → IfSome c (λ o. KeepsOutline o mid.world new.world status) → IfSome (option_map (outline_after before) c) (λ o. KeepsOutline o old.world new.world status)
+  outline_on None status keeps = tt
+  outline_on (Some o) status keeps = outline_since o status keeps
+
   -- which takes no card and no line, and no input was asked
   pub part_on : TakesNone before → Unasked old.world mid.world → (o : Option Job) (shown : Option Console) → IfSome o (λ j. StopsAt j shown mid.world new.world) → IfSome (option_map (job_behind before) o) (λ j. StopsAt j shown old.world new.world)
   part_on none still None shown part = tt
@@ -260,7 +290,7 @@ module _ (before : List Event) (old mid new : Seen) (did : DidAll before old.wor
 
 -- behind bindings
 pub promise_bound : (binds : List Event) (c : Promise) (old mid new : Seen) → old.faults ≤ mid.faults → DidAll binds old.world mid.world → TakesNone binds → Unasked old.world mid.world → (answer : Answer) → KeepsPromise c mid new answer → KeepsPromise (promise_behind binds c) old new answer
-promise_bound binds c old mid new later did none still answer (inl own) = inl (record { own = own.own; usage_is = own.usage_is; all = own_on binds old mid new did c.job answer own.all })
+promise_bound binds c old mid new later did none still answer (inl own) = inl (record { own = own.own; usage_is = own.usage_is; all = own_on binds old mid new did c.job answer own.all; outline = outline_on binds old mid new did c.outline answer.status own.outline })
 promise_bound binds c old mid new later did none still answer (inr (inl fault)) = inr (inl (record { status = fault.status; refusal = fault.refusal; statement = fault.statement; rose = omega (arith, later, fault.rose); part = part_on binds old mid new did none still c.job answer.console fault.part }))
 promise_bound binds c old mid new later did none still answer (inr (inr lacks)) = inr (inr (record {
   words = lacks.words;
@@ -273,11 +303,11 @@ promise_bound binds c old mid new later did none still answer (inr (inr lacks)) 
 }))
 
 -- behind texts that were made
-pub promise_made : (texts : List Event) → AreMakings texts → (j : Option Job) (more : List Event) (old mid new : Seen) → old.faults ≤ mid.faults → DidAll texts old.world mid.world → Unasked old.world mid.world → (answer : Answer)
-    → KeepsPromise (record { job = j; made = texts_alone (Some more); usage = false }) mid new answer → KeepsPromise (record { job = option_map (job_behind texts) j; made = texts_alone (Some (texts ++ more)); usage = false }) old new answer
-promise_made texts makings j more old mid new later did still answer (inl own) = inl (record { own = own.own; usage_is = own.usage_is; all = own_on texts old mid new did j answer own.all })
-promise_made texts makings j more old mid new later did still answer (inr (inl fault)) = inr (inl (record { status = fault.status; refusal = fault.refusal; statement = fault.statement; rose = omega (arith, later, fault.rose); part = part_on texts old mid new did (makings_take texts makings) still j answer.console fault.part }))
-promise_made texts makings j more old mid new later did still answer (inr (inr lacks)) = inr (inr (record {
+pub promise_made : (texts : List Event) → AreMakings texts → (j : Option Job) (known : Option Outline) (more : List Event) (old mid new : Seen) → old.faults ≤ mid.faults → DidAll texts old.world mid.world → Unasked old.world mid.world → (answer : Answer)
+    → KeepsPromise (record { job = j; outline = known; made = texts_alone (Some more); usage = false }) mid new answer → KeepsPromise (record { job = option_map (job_behind texts) j; outline = option_map (outline_after texts) known; made = texts_alone (Some (texts ++ more)); usage = false }) old new answer
+promise_made texts makings j known more old mid new later did still answer (inl own) = inl (record { own = own.own; usage_is = own.usage_is; all = own_on texts old mid new did j answer own.all; outline = outline_on texts old mid new did known answer.status own.outline })
+promise_made texts makings j known more old mid new later did still answer (inr (inl fault)) = inr (inl (record { status = fault.status; refusal = fault.refusal; statement = fault.statement; rose = omega (arith, later, fault.rose); part = part_on texts old mid new did (makings_take texts makings) still j answer.console fault.part }))
+promise_made texts makings j known more old mid new later did still answer (inr (inr lacks)) = inr (inr (record {
   words = lacks.words;
   plain = lacks.plain;
   done = texts ++ lacks.done;

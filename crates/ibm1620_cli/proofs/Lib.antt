@@ -27,6 +27,7 @@ mod Bindings
 mod Jobs
 mod Endings
 mod Headlines
+mod OverMemory
 mod CardLines
 mod RoundTripRuns
 mod PromptOrder

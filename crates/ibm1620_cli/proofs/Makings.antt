@@ -132,7 +132,7 @@ module _ (m : ℕ) (settings : Settings) (source : List ℕ) where
         inputs = unasked (made_take (made_of m settings.form source)) (goes_unasked (made_events (made_of m settings.form source)) start mid goes) refl;
         refusal = λ other. tt;
         program = refl;
-      }) reports
+      }) tt reports
 
   -- nothing was written, or not all
   pub promise_unwritten : (start new : Seen) (s : Status) → ((s ≡ OutOfMemory) × (new ≡ start)) ⊎ ((s ≡ HostFault) × StopsWithin (made_events (made_of m settings.form source)) start new) → KeepsPromise (written_promise m settings source start.world) start new (answer_of s)

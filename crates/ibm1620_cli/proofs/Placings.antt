@@ -108,7 +108,7 @@ module _ (m : ℕ) (source : List ℕ) (start : Seen) where
         inputs = unasked (placing_takes p) (goes_unasked (placing_events p) start mid goes) refl;
         refusal = λ other. tt;
         program = refl;
-      }) reports
+      }) tt reports
 
   pub promise_placed_stops : (new : Seen) → StopsWithin (placing_events p) start new → KeepsPromise (placing_promise m source start.world) start new (answer_of HostFault)
   promise_placed_stops new stops = promise_cut (placing_promise m source start.world) start new status (placing_events p) refl (placing_takes p) (stops_asked (placing_events p) start new stops) (stops_fails (placing_events p) start new stops)

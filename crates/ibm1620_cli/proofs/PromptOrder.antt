@@ -12,7 +12,7 @@ use Rattle.outside_io.specs.Lines.{first_line_of, without_return, first_text, on
 use Rattle.outside_io.specs.Events.{Event, lines_in}
 use Rattle.card_code.specs.Entries.{Entry, Text, Long, entry, entries, entries_of_unit}
 use Rattle.card_code.specs.Reader.{unit_of, lines_handed_out, bytes_held, has_end, AsksInTurn}
-use Rattle.typewriter.specs.declared.keyboard.Keyboard.{Keyboard}
+use Rattle.card_code.specs.declared.lines.Lines.{Lines}
 use Rattle.cpu_step.specs.declared.console.Console.{Console}
 use Rattle.typewriter.specs.Keys.{keys_left}
 use Rattle.ibm1620_cli.specs.Promise.{MachineEnd, Job, AsksForInputs, unasked, asked}
@@ -208,15 +208,15 @@ module _ (j : Job) (old new : World) (read : HasReadLine j old new) where
   left = read.first_left ∷ read.more_left
 
   -- the line was not taken, so a keyboard holds it
-  untaken : (k : Keyboard) (n : ℕ) → n ≤ length read.earlier → keys_left k new ≡ Some (drop n read.rest.keys) → HoldsLine (bytes_held k.lines) read.last
-  untaken k n low lines =
+  untaken : (k : Lines) (n : ℕ) → unit_of k ≡ units.Keys → n ≤ length read.earlier → keys_left k new ≡ Some (drop n read.rest.keys) → HoldsLine (bytes_held k) read.last
+  untaken k n of_keys low lines =
       let first = begin_with units.Keys 0 (read.earlier ++ read.last ∷ []) left read.typed in
-      let here : new.left (unit_of k.lines) ≡ Some left = ap (λ (u : unit.Unit). new.left u) k.unit_is ∙ read.left in
-      let told : Some (entries_of_unit (unit_of k.lines) (lines_handed_out k.lines) (bytes_held k.lines ++ left)) ≡ Some (drop n read.rest.keys) =
-      ap (λ (o : Option (List ℕ)). option_map (entries_of_unit (unit_of k.lines) (lines_handed_out k.lines)) (option_map (λ l. bytes_held k.lines ++ l) o)) (sym here) ∙ lines in
-      let are : entries_of_unit (unit_of k.lines) (lines_handed_out k.lines) (bytes_held k.lines ++ left) ≡ drop n read.rest.keys = cc in
+      let here : new.left (unit_of k) ≡ Some left = ap (λ (u : unit.Unit). new.left u) of_keys ∙ read.left in
+      let told : Some (entries_of_unit (unit_of k) (lines_handed_out k) (bytes_held k ++ left)) ≡ Some (drop n read.rest.keys) =
+      ap (λ (o : Option (List ℕ)). option_map (entries_of_unit (unit_of k) (lines_handed_out k)) (option_map (λ l. bytes_held k ++ l) o)) (sym here) ∙ lines in
+      let are : entries_of_unit (unit_of k) (lines_handed_out k) (bytes_held k ++ left) ≡ drop n read.rest.keys = cc in
       let es : List Entry = entries_of_unit units.Keys first.from left in
-      holds (drop n read.earlier) read.last (unit_of k.lines) (lines_handed_out k.lines) (bytes_held k.lines) read.first_left read.more_left es
+      holds (drop n read.earlier) read.last (unit_of k) (lines_handed_out k) (bytes_held k) read.first_left read.more_left es
       (are ∙ ap (drop n) (read.keys ∙ first.are) ∙ drop_earlier n read.earlier read.last es low) (count units.Keys first.from left)
 
   taken : (done : List Event) (shown : Option Console) → AsksForInputs j.rest j.way done shown old new → length read.earlier < lines_in done
@@ -228,11 +228,11 @@ module _ (j : Job) (old new : World) (read : HasReadLine j old new) where
     | inr over ↦
         let both : Some r ≡ Some read.rest = sym is ∙ read.has_machine in
         let same : r ≡ read.rest = cc in
-        let k : Keyboard = has.keyboard in
-        let held = untaken k (lines_in done) over (has.lines_are ∙ ap (λ (x : MachineEnd). Some (drop (lines_in done) x.keys)) same) in
-        let here : new.asked (unit_of k.lines) ≡ Some (record { last = length read.last + 1; ends = read.ends }) = ap (λ (u : unit.Unit). new.asked u) k.unit_is ∙ read.asked in
-        let in_turn : AsksInTurn (bytes_held k.lines) (record { last = length read.last + 1; ends = read.ends }) = subst (λ (o : Option Asked). IfSome o (AsksInTurn (bytes_held k.lines))) here has.typed.by.turn in
-        absurd (not_in_turn (bytes_held k.lines) read.last read.ends held in_turn)
+        let k : Lines = has.keyboard in
+        let held = untaken k (lines_in done) has.typed.by.unit over (has.lines_are ∙ ap (λ (x : MachineEnd). Some (drop (lines_in done) x.keys)) same) in
+        let here : new.asked (unit_of k) ≡ Some (record { last = length read.last + 1; ends = read.ends }) = ap (λ (u : unit.Unit). new.asked u) has.typed.by.unit ∙ read.asked in
+        let in_turn : AsksInTurn (bytes_held k) (record { last = length read.last + 1; ends = read.ends }) = subst (λ (o : Option Asked). IfSome o (AsksInTurn (bytes_held k))) here has.typed.by.turn in
+        absurd (not_in_turn (bytes_held k) read.last read.ends held in_turn)
   ]
 
 pub prompt : PromptLaw

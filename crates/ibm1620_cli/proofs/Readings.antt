@@ -18,11 +18,11 @@ use Rattle.ibm1620_cli.specs.declared.status.Status.TheVariants.{TooLong}
 use Rattle.ibm1620_cli.specs.Reading.{read_within, text_read}
 use Rattle.ibm1620_cli.specs.Inputs.{EndsOnce, reads_both}
 use Rattle.ibm1620_cli.specs.Report.{report_line}
-use Rattle.ibm1620_cli.specs.Promise.{Job, ShowsRefusal, Unasked, unasked, StopsAt, texts_alone, Promise, KeepsPromise, job_read, read_promise, InputTexts, with_texts, world_with_texts, AreTold, KeepsFrom, KeepsJob}
+use Rattle.ibm1620_cli.specs.Promise.{Job, ShowsRefusal, Unasked, unasked, StopsAt, texts_alone, Promise, KeepsPromise, Outline, KeepsOutline, job_read, outline_read, read_promise, InputTexts, with_texts, world_with_texts, AreTold, KeepsFrom, KeepsJob}
 use Rattle.ibm1620_cli.specs.Parts.{Reports, IsAlone, TakesFrom, Loses, Unread, refused, host_failed, lacking, LeavesUnread}
 use Rattle.ibm1620_cli.proofs.ToldValues.{if_some, all_some}
 use Rattle.ibm1620_cli.proofs.TakenInputs.{unasked_on, asks_behind}
-use Rattle.ibm1620_cli.proofs.KeptPromises.{ReadyJob, once_same, once_first, report_stays, stays_both, stays_on, stays_less, promise_report, promise_fault, promise_lacking, none_part}
+use Rattle.ibm1620_cli.proofs.KeptPromises.{ReadyJob, once_same, once_first, report_stays, stays_both, stays_on, stays_less, other_left, outline_since, promise_report, promise_fault, promise_lacking, none_part}
 
 -- what a unit holds, by what is told or else by what was taken
 pub told_or : (o : Option (List ℕ)) (a : List ℕ) → IfSome o (λ all. all ≡ unwrap_or o a)
@@ -79,14 +79,10 @@ source_alone w = record {
   told = λ text is. record { script = (are_told w).script; commands = (are_told w).commands; source = is };
 }
 
--- what holds of the job by what was read holds of the job by what is told
-told_job : {A : Type 0} (P : Job → Type 0) (read : List ℕ → Result A Status) (r : Result A Status) (by : Result A Status → Option Job) (left : Option (List ℕ)) (text : List ℕ) → left ≡ Some text → read text ≡ r → IfSome (by r) P
+-- what holds of a job, or of what is known of it, by what was read holds of it by what is told
+told_job : {A B : Type 0} (P : B → Type 0) (read : List ℕ → Result A Status) (r : Result A Status) (by : Result A Status → Option B) (left : Option (List ℕ)) (text : List ℕ) → left ≡ Some text → read text ≡ r → IfSome (by r) P
     → IfSome (option_and_then (λ t. by (read t)) left) P
 told_job P read r by left text is says holds = subst (λ (o : Option (List ℕ)). IfSome (option_and_then (λ t. by (read t)) o) P) (sym is) (subst (λ x. IfSome (by x) P) (sym says) holds)
-
-other_left : {A : Type 0} (same : Bool) (old new : A) → same ≡ false → (if same then new else old) ≡ old
-other_left true old new other = cc
-other_left false old new other = refl
 
 -- a unit that no machine reads is none that one reads
 apart_from : (u v : unit.Unit) (same : Bool) → same_unit u v ≡ same → is_read u ≡ false → is_read v ≡ true → same_unit u v ≡ false
@@ -112,6 +108,9 @@ module _ {A : Type 0} (u : unit.Unit) (other : is_read u ≡ false) (read : List
     abbrev unread_by : World → Result A Status → Option Job
     unread_by w r = job_read (λ what. (next what w).job) r
 
+    abbrev outline_by : World → Result A Status → Option Outline
+    outline_by w r = outline_read (λ what. (next what w).outline) r
+
     abbrev known : List ℕ
     known = unwrap_or (start.world.left u) []
 
@@ -130,7 +129,8 @@ module _ {A : Type 0} (u : unit.Unit) (other : is_read u ≡ false) (read : List
             inputs = unasked (refl, refl) (still takes.gone takes.goes) alone.console;
             refusal = λ other. subst (ShowsRefusal None) (sym alone.refusal) tt;
             program = refl;
-          })) reports;
+          }))
+          (told_job (λ o. KeepsOutline o start.world later.world s) read (Err s) (outline_by (given takes.text)) ((given takes.text).left u) takes.text (t.reads takes.text) takes.says tt) reports;
     }
     promise_unread s answer (host_failed loses is rose) reports alone = record {
       texts = t.with known;
@@ -149,14 +149,21 @@ module _ {A : Type 0} (u : unit.Unit) (other : is_read u ≡ false) (read : List
     abbrev read_by : Result A Status → Option Job
     read_by r = job_read (λ x. (next x w).job) r
 
+    abbrev outlined_by : Result A Status → Option Outline
+    outlined_by r = outline_read (λ x. (next x w).outline) r
+
     before : (ds : List Event) → DidAll ds later.world new.world → DidAll ds start.world new.world
     before ds did = did_on [] ds start.world later.world new.world (did_taken u takes.gone start.world later.world takes.goes.world) did
+
+    known_before : {s : Status} (o : Outline) → KeepsOutline o later.world new.world s → KeepsOutline o start.world new.world s
+    known_before {s = s} o keeps = let since = outline_since [] start later new (did_taken u takes.gone start.world later.world takes.goes.world) o s keeps in record { ends = since.ends; written = since.written }
 
     pub promise_read : (answer : Answer) → KeepsPromise (next what w) later new answer → KeepsPromise (read_promise u read made next w) start new answer
     promise_read answer (inl own) = inl (record {
       own = own.own;
       usage_is = own.usage_is ∙ plain;
       all = told_job _ read (Ok what) read_by (w.left u) takes.text reads takes.says (if_some (next what w).job (λ j a. record { status = a.status; did = before j.events a.did; rest = a.rest; refusal = a.refusal; statement = a.statement }) own.all);
+      outline = told_job (λ o. KeepsOutline o start.world new.world answer.status) read (Ok what) outlined_by (w.left u) takes.text reads takes.says (if_some (next what w).outline known_before own.outline);
     })
     promise_read answer (inr (inl fault)) = inr (inl (record {
       status = fault.status;
@@ -193,6 +200,7 @@ module _ {A : Type 0} (u : unit.Unit) (other : is_read u ≡ false) (read : List
 pub read_apart : {A : Type 0} (u : unit.Unit) (read : List ℕ → Result A Status) (made : World → Option (List Event)) (next : A → World → Promise) (w v : World) → w.left u ≡ v.left u → made w ≡ made v → ((what : A) → next what w ≡ next what v) → read_promise u read made next w ≡ read_promise u read made next v
 read_apart u read made next w v left same_made same = λ i. record {
   job = option_and_then (λ text. job_read (λ what. (same what i).job) (read text)) (left i);
+  outline = option_and_then (λ text. outline_read (λ what. (same what i).outline) (read text)) (left i);
   made = texts_alone (same_made i);
   usage = false;
 }

@@ -4,7 +4,7 @@ use Rattle.std.proofs.lemmas.Bool.Decides.{nat_tests}
 use Rattle.std.proofs.lemmas.List.{length-map, length-replicate}
 use Rattle.std.specs.Prelude.{Option, Some, None, IfSome, option_map, option_and_then, Result, Ok, if◌then◌else◌}
 use Rattle.outside_io.specs.declared.host.Unit.TheVariants as units
-use Rattle.outside_io.specs.World.{World, Seen, Rose, world_after_put, all_units}
+use Rattle.outside_io.specs.World.{World, Seen, world_after_put, all_units}
 use Rattle.outside_io.specs.Events.{Event, after_events, text_events, DidAll}
 use Rattle.outside_io.proofs.EventLemmas.{after_append, after_text}
 use Rattle.digit_core.specs.Cell.{zero_cell}
@@ -48,7 +48,7 @@ use Rattle.command_line.specs.declared.words.Command.{Command}
 use Rattle.command_line.specs.Words.{WordsSaid}
 use Rattle.ibm1620_cli.specs.declared.status.Status.{Status}
 use Rattle.ibm1620_cli.specs.declared.answer.Answer.{Answer}
-use Rattle.ibm1620_cli.specs.declared.status.Status.TheVariants.{OutOfMemory}
+use Rattle.ibm1620_cli.specs.declared.status.Status.TheVariants.{HostFault, OutOfMemory}
 use Rattle.ibm1620_cli.specs.Binding.{all_bound}
 use Rattle.ibm1620_cli.specs.Report.{report_line}
 use Rattle.ibm1620_cli.specs.Promise.{Job, job_behind, job_read, job_leaving, EndsWithAnswer, InputTexts, world_with_texts, AreTold}
@@ -398,19 +398,19 @@ module _ (words : List (List ℕ)) (old new : Seen) (answer : Answer) (r : Later
         ∙ ap read_as (short_read m r.script (Ok given) r.script_fits r.lines_are)
         ∙ (λ i. option_map (job_behind binds) (option_map (λ l. turns_job None [] r.said.settings.limit (keyed_machine m w given l)) (loading_of (leads.deck_is i) (r.feed_is i))))
 
-  later_said : DeckLeads → DoesSaid r.said old new answer → (Rose old.faults new.faults → ⊥) → answer.status ≢ OutOfMemory → EndsWithAnswer (later_job r cards set_up) old new answer
-  later_said leads kept none found = elim kept.keeps [
+  later_said : DeckLeads → DoesSaid r.said old new answer → answer.status ≢ HostFault → answer.status ≢ OutOfMemory → EndsWithAnswer (later_job r cards set_up) old new answer
+  later_said leads kept unfailed found = elim kept.keeps [
     | inl own ↦ subst (λ (j : Job). EndsWithAnswer j old new answer) (same_job leads) (ends_without loaded old new answer (subst (λ (o : Option Job). IfSome o (λ j. EndsWithAnswer j old new answer)) (job_is kept.texts kept.told leads) own.all))
-    | inr (inl fault) ↦ absurd (none fault.rose)
+    | inr (inl fault) ↦ absurd (unfailed fault.status)
     | inr (inr lacks) ↦ absurd (found (ap (λ (a : Answer). a.status) lacks.plain))
   ]
 
-  pub later_told : DeckLeads → TellsAnswer words old new answer → (Rose old.faults new.faults → ⊥) → answer.status ≢ OutOfMemory → EndsWithAnswer (later_job r cards set_up) old new answer
-  later_told leads (inl told) none found = later_said leads (subst (λ (o : Option WordsSaid). DoesWords o old new answer) r.is told) none found
-  later_told leads (inr lacks) none found = absurd (found lacks.0.lacks)
+  pub later_told : DeckLeads → TellsAnswer words old new answer → answer.status ≢ HostFault → answer.status ≢ OutOfMemory → EndsWithAnswer (later_job r cards set_up) old new answer
+  later_told leads (inl told) unfailed found = later_said leads (subst (λ (o : Option WordsSaid). DoesWords o old new answer) r.is told) unfailed found
+  later_told leads (inr lacks) unfailed found = absurd (found lacks.0.lacks)
 
 pub trip_told : (words : List (List ℕ)) (old new : Seen) (answer : Answer) → TellsAnswer words old new answer → RoundTrip words old new answer
-trip_told words old new answer tells r none found =
+trip_told words old new answer tells r unfailed found =
     let c : ℕ = modules_of r.load.said.core in
     let world : World = all_bound r.load.said.names old.world in
     let p : Program = program_of c r.form r.source in
@@ -424,10 +424,10 @@ trip_told words old new answer tells r none found =
       ends = subst (λ (n : ℕ). EndsAfter n (state_over world (state_after_load_key c load)) enters) (sym r.steps_are) (t.ends (machine_texts world));
       does = subst (λ (n : ℕ). DoesAfter n (deck_of p) (state_over world (powered_to_load c load)) enters) (sym r.steps_are) (t.does (machine_texts world));
     })
-    tells none found
+    tells unfailed found
 
 pub disk_trip_told : (words : List (List ℕ)) (old new : Seen) (answer : Answer) → TellsAnswer words old new answer → DiskRoundTrip words old new answer
-disk_trip_told words old new answer tells r none found =
+disk_trip_told words old new answer tells r unfailed found =
     let c : ℕ = modules_of r.load.said.core in
     let world : World = all_bound r.load.said.names old.world in
     let load : Loading = load_of_boot c r.source r.load.feed in
@@ -440,4 +440,4 @@ disk_trip_told words old new answer tells r none found =
       ends = subst (λ (n : ℕ). EndsAfter n (state_over world (state_after_load_key c load)) enters) (sym r.steps_are) (t.ends r.load.feed r.sectors (machine_texts world));
       does = subst (λ (n : ℕ). DoesAfter n (boot_cards c r.source) (state_over world (powered_to_load c load)) enters) (sym r.steps_are) (t.does r.load.feed r.sectors (machine_texts world));
     })
-    tells none found
+    tells unfailed found

@@ -6,10 +6,11 @@ use Rattle.outside_io.specs.World.{World, Seen}
 use Rattle.outside_io.specs.Events.{Event}
 use Rattle.cpu_step.specs.declared.console.Console.{Console}
 use Rattle.sps_pass_one.specs.Layout.{Refusal}
+use Rattle.ibm1620_cli.specs.declared.status.Status.{Status}
 use Rattle.ibm1620_cli.specs.declared.status.Status.TheVariants.{HostFault, OutOfMemory}
 use Rattle.ibm1620_cli.specs.declared.answer.Answer.{Answer}
 use Rattle.ibm1620_cli.specs.declared.source.SoundSource.{SoundSource}
-use Rattle.ibm1620_cli.specs.Promise.{ProgramTexts, Job, job_with_program, LeavesMachine, ShowsRefusal, ShowsStatement, AsksForInputs, EndsWithAnswer, StopsAt, FaultEnd, MemoryEnd, OwnEnd, answer_of, Promise, promise_with_program, KeepsPromise, is_own, is_usage}
+use Rattle.ibm1620_cli.specs.Promise.{ProgramTexts, Job, job_with_program, LeavesMachine, ShowsRefusal, ShowsStatement, AsksForInputs, EndsWithAnswer, StopsAt, FaultEnd, MemoryEnd, OwnEnd, answer_of, Promise, promise_with_program, KeepsPromise, KeepsOutline, is_own, is_usage}
 use Rattle.ibm1620_cli.specs.Source.{texts_of_program, promise_by, running_promise}
 use Rattle.ibm1620_cli.specs.Parts.{IsSoundSource, program_of_sound, AddsStatement}
 use Rattle.ibm1620_cli.proofs.ToldValues.{if_mapped}
@@ -37,6 +38,7 @@ module _ (p : ProgramTexts) (c : Promise) (old new : Seen) (answer stated : Answ
     own = ap is_own adds.status ∙ own.own;
     usage_is = ap is_usage adds.status ∙ own.usage_is;
     all = if_mapped (λ j. EndsWithAnswer j old new stated) (λ j. EndsWithAnswer j old new answer) c.job (job_with_program p) (ends_stated (λ fault. true≢false (sym own.own ∙ ap is_own fault))) own.all;
+    outline = subst (λ (s : Status). IfSome c.outline (λ o. KeepsOutline o old.world new.world s)) (sym adds.status) own.outline;
   }
 
   fault_stated : FaultEnd c old new answer → FaultEnd (promise_with_program p c) old new stated

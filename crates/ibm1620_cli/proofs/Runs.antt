@@ -16,10 +16,10 @@ use Rattle.ibm1620_cli.specs.declared.answer.Answer.{Answer}
 use Rattle.ibm1620_cli.specs.declared.status.Status.TheVariants.{HostFault, OutOfMemory}
 use Rattle.ibm1620_cli.specs.Makings.{AreMakings}
 use Rattle.ibm1620_cli.specs.Report.{report_line}
-use Rattle.ibm1620_cli.specs.Promise.{Job, job_behind, answer_of, Unasked, StopsAt, texts_alone, Promise, world_with_texts, InputTexts, KeepsPromise}
+use Rattle.ibm1620_cli.specs.Promise.{Job, job_behind, outline_after, answer_of, Unasked, StopsAt, texts_alone, Promise, world_with_texts, InputTexts, KeepsPromise}
 use Rattle.cpu_step.specs.State.{UnitTexts}
 use Rattle.cpu_step.specs.Machine.{machine_texts}
-use Rattle.ibm1620_cli.specs.Turns.{MachineFeed, feed_at, LoadedMachine, turns_job, turns_promise, first_in}
+use Rattle.ibm1620_cli.specs.Turns.{MachineFeed, feed_at, ends_a_run, LoadedMachine, turns_job, turns_promise, first_in}
 use Rattle.ibm1620_cli.specs.Program.{deck_of, set_up_at_power_on, set_up_after_load, loaded_by, program_promise}
 use Rattle.ibm1620_cli.specs.Source.{SourceTexts, program_of, made_of, made_events, events_by, events_of_source, events_at, promise_by, running_promise}
 use Rattle.ibm1620_cli.specs.RunJob.{turned_promise, script_promise}
@@ -36,7 +36,7 @@ use Rattle.ibm1620_cli.proofs.Makings.{makings_of, made_take, made_world, made_k
 module _ {A : Type 0} (own : Option (List (List ℕ))) (before : List Event) (limit : ℕ) (loaded : A → LoadedMachine) (told : Option A) where
   -- behind texts that were made
   abbrev made_behind : Promise
-  made_behind = record { job = option_map (job_behind before) (turns_promise own [] limit loaded told).job; made = texts_alone (Some (before ++ [])); usage = false }
+  made_behind = record { job = option_map (job_behind before) (turns_promise own [] limit loaded told).job; outline = option_map (outline_after before) (turns_promise own [] limit loaded told).outline; made = texts_alone (Some (before ++ [])); usage = false }
 
   job_is : (a : A) → job_behind before (turns_job own [] limit (loaded a)) ≡ turns_job own before limit (loaded a)
   job_is a =
@@ -46,13 +46,14 @@ module _ {A : Type 0} (own : Option (List (List ℕ))) (before : List Event) (li
   behind_is : made_behind ≡ turns_promise own before limit loaded told
   behind_is = λ i. record {
     job = (map_twice told (job_behind before) (λ a. turns_job own [] limit (loaded a)) ∙ (λ k. option_map (λ a. job_is a k) told)) i;
+    outline = Some (record { ends = ends_a_run; before = append-nil before i });
     made = texts_alone (Some (append-nil before i));
     usage = false;
   }
 
   pub turns_behind : (start mid new : Seen) → start.faults ≤ mid.faults → DidAll before start.world mid.world → Unasked start.world mid.world → AreMakings before → (answer : Answer) → KeepsPromise (turns_promise own [] limit loaded told) mid new answer → KeepsPromise (turns_promise own before limit loaded told) start new answer
   turns_behind start mid new later did still makings answer kept =
-      subst (λ (c : Promise). KeepsPromise c start new answer) behind_is (promise_made before makings (turns_promise own [] limit loaded told).job [] start mid new later did still answer kept)
+      subst (λ (c : Promise). KeepsPromise c start new answer) behind_is (promise_made before makings (turns_promise own [] limit loaded told).job (turns_promise own [] limit loaded told).outline [] start mid new later did still answer kept)
 
 module _ (m : ℕ) (settings : Settings) (lines : List ScriptLine) (source : List ℕ) where
   abbrev made : SourceTexts

@@ -2,8 +2,9 @@
 use Rattle.std.proofs.Common.{◌≡◌, ℕ, ◌≤◌, List, [], ◌∷◌, ◌++◌, map, inl, inr, refl, sym, ◌∙◌, ap, subst, append_assoc, arith}
 use Rattle.std.proofs.lemmas.List.{append-nil}
 use Rattle.std.specs.Prelude.{◌⊎◌, Option, Some, None, IfSome, option_map}
+use Rattle.outside_io.specs.declared.host.Unit as unit
 use Rattle.outside_io.specs.declared.host.Unit.TheVariants as units
-use Rattle.outside_io.specs.World.{World, Readings, Seen, Rose, Goes, world_after_take}
+use Rattle.outside_io.specs.World.{World, Readings, Seen, Rose, Goes, same_unit, world_after_take}
 use Rattle.outside_io.specs.Events.{Event, after_events, IsFirstPart, DidAll, DidPart}
 use Rattle.outside_io.proofs.EventLemmas.{did_none, did_on, first_on, first_more}
 use Rattle.card_code.specs.Entries.{Text}
@@ -14,7 +15,7 @@ use Rattle.cpu_step.specs.declared.console.Console.{Console}
 use Rattle.cpu_step.specs.State.{UnitTexts, State}
 use Rattle.cpu_step.specs.Load.{load_key, load_cut}
 use Rattle.cpu_step.specs.Outside.{load_events}
-use Rattle.cpu_step.specs.Machine.{machine_texts, state_of, IsPowered}
+use Rattle.cpu_step.specs.Machine.{machine_texts, state_of, is_written, IsPowered}
 use Rattle.cpu_step.specs.Console.{shown_on}
 use Rattle.cpu_step.proofs.ExactCards.{exact}
 use Rattle.cpu_step.proofs.InputsTaken.{HasTaken, taken_on, load_taken}
@@ -55,7 +56,7 @@ use Rattle.operator_script.proofs.Running.{place_is}
 use Rattle.ibm1620_cli.proofs.TakenInputs.{makings_take, taken_behind, stops_unasked}
 use Rattle.ibm1620_cli.proofs.Leaving.{Supply, HasReadOf, powered_reads, frames_read, machine_has, machine_asks}
 use Rattle.ibm1620_cli.proofs.TurnPromises.{supply_of, none_shown}
-use Rattle.ibm1620_cli.proofs.KeptPromises.{ReadyJob, promise_report, promise_memory}
+use Rattle.ibm1620_cli.proofs.KeptPromises.{ReadyJob, neither, promise_report, promise_memory}
 use Rattle.ibm1620_cli.proofs.DeckPromises.{key_part, stops_on}
 use Rattle.ibm1620_cli.proofs.Readings.{read_apart}
 use Rattle.ibm1620_cli.proofs.Sources.{FollowsSource, source_apart}
@@ -268,7 +269,12 @@ module _ (before : List Event) (limit : ℕ) (placed : List PlacedText) (p : Pro
         for_end new reports =
             promise_report promise base mid new SessionEnded (report_line SessionEnded) answer (omega (arith, later, key.makes.frames.later, out.frames.later)) refl refl (λ fault. shows.refusal) shows.statement
             (if_mapped Ready (λ feed. Ready (job feed)) told job (λ feed ready. ready)
-            (if_both told session_done did_pressed (if_told By told first (place_of p.modules (run_state p.modules key.keyed script 0) pressed.world) is_first out.told))) reports
+            (if_both told session_done did_pressed (if_told By told first (place_of p.modules (run_state p.modules key.keyed script 0) pressed.world) is_first out.told)))
+            (record {
+              ends = refl;
+              written = λ u silent. out.frames.keeps.written u silent ∙ key.makes.frames.keeps.written u (neither (is_written u) (same_unit units.Report u) silent).0 ∙ ap (λ (written : unit.Unit → Option (List ℕ)). written u) did.written;
+            })
+            reports
 
   -- all its ends
   pub promise_holds : (new : Seen) (answer : Answer) → HoldsSession p.modules limit placed hopper script commands start new answer → KeepsPromise promise base new answer

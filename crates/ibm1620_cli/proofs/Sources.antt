@@ -97,7 +97,7 @@ refused_promise next source (Some r) start new statement rule part answer is ref
       inputs = unasked (refl, refl) (λ u read. refl) refuses.console;
       refusal = λ other. subst (λ (p : ℕ × Fault). ShowsRefusal (Some (refused_text source p.0 p.1.rule p.1.part)) answer.refusal) (sym pair) (refuses.shows other);
       program = refl;
-    }) refuses.reports
+    }) tt refuses.reports
 
 module _ (m : ℕ) (made : World → Option (List Event)) (next : List ℕ → World → Promise) (source : List ℕ) (follows : FollowsSource m made next source) where
   abbrev behind : World → Promise

@@ -111,7 +111,7 @@ left_same r cards keys s shown w v left still has =
       keyboard = has.keyboard;
       own_is = has.own_is;
       cards_are = hopper_same has.hopper v w (left_at units.Deck) (left_at units.Data) ∙ has.cards_are;
-      lines_are = keys_same has.keyboard w v (left_at units.Keys) ∙ has.lines_are;
+      lines_are = keys_same has.keyboard w v has.typed.by.unit (left_at units.Keys) ∙ has.lines_are;
       read = hoppers.read_same has.hopper w v (left_at units.Deck) (left_at units.Data) (asked_at units.Deck) (asked_at units.Data) (record { pile = r.pile; all = r.cards }) has.read;
       typed = keyboards.read_same has.keyboard w v (left_at units.Keys) (asked_at units.Keys) r.keys has.typed;
       shows = has.shows;

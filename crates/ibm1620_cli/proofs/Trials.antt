@@ -26,7 +26,7 @@ use Rattle.ibm1620_cli.specs.TrialJob.{trial_modules, trial_settings, steps_of, 
 use Rattle.ibm1620_cli.specs.Parts.{RefusesSource, breaks, no_memory, ReportsBy, ReportsTrial, StopsWithin, LeavesUnread}
 use Rattle.ibm1620_cli.proofs.ToldValues.{if_some, all_some, if_both}
 use Rattle.ibm1620_cli.proofs.Leaving.{rest_reported}
-use Rattle.ibm1620_cli.proofs.KeptPromises.{stops_reported, promise_memory, report_stays, stays_same}
+use Rattle.ibm1620_cli.proofs.KeptPromises.{stops_reported, outline_reported, promise_memory, report_stays, stays_same}
 use Rattle.ibm1620_cli.proofs.TurnPromises.{HasInputs, turns_inputs, ended_asks}
 use Rattle.ibm1620_cli.proofs.Programs.{program_loaded}
 use Rattle.ibm1620_cli.proofs.Makings.{made_take}
@@ -66,6 +66,7 @@ module _ (settings : Settings) (cards : ℕ) (c : Promise) (start mid : Seen) (r
       refusal = all.refusal;
       statement = all.statement;
     }) own.all);
+    outline = own.outline;
   })
   without none (inr (inl fault)) = inr (inl (record {
     status = fault.status;
@@ -100,6 +101,7 @@ module _ (settings : Settings) (cards : ℕ) (c : Promise) (start mid : Seen) (r
         refusal = all.refusal;
         statement = all.statement;
       }) own.all);
+      outline = outline_reported c.outline start.world mid new ran.status line goes own.outline;
     })
     with_done new goes (inr (inl fault)) = absurd (steps_fault ran.status steps fault.status counts)
     with_done new goes (inr (inr lacks)) = absurd (steps_memory ran.status steps (ap (λ (a : Answer). a.status) lacks.plain) counts)

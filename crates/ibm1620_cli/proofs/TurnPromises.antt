@@ -1,8 +1,9 @@
 -- The promise of the turns of a machine that was set up.
 use Rattle.std.proofs.Common.{◌≡◌, ℕ, ◌≤◌, true, false, List, ◌++◌, drop, inl, inr, refl, sym, ◌∙◌, ap, subst, append_assoc, arith}
 use Rattle.std.specs.Prelude.{Option, Some, None, IfSome, option_map}
+use Rattle.outside_io.specs.declared.host.Unit as unit
 use Rattle.outside_io.specs.declared.host.Unit.TheVariants as units
-use Rattle.outside_io.specs.World.{World, Seen}
+use Rattle.outside_io.specs.World.{World, Seen, same_unit}
 use Rattle.outside_io.specs.Frame.{Keeps}
 use Rattle.cpu_step.specs.declared.machine.Machine.{Machine}
 use Rattle.cpu_step.specs.declared.console.Console.{Console}
@@ -18,6 +19,7 @@ use Rattle.operator_script.specs.Turn.{RunPlace, last_place, most_turns, ending_
 use Rattle.operator_script.specs.Run.{run_state, moment, place_of, RunsOut, BreaksOff, Runs}
 use Rattle.operator_script.proofs.LastPlace.{last_is}
 use Rattle.operator_script.proofs.Running.{place_is}
+use Rattle.console_debug.specs.Debugs.{is_said}
 use Rattle.ibm1620_cli.specs.declared.status.Status.{Status}
 use Rattle.ibm1620_cli.specs.declared.answer.Answer.{Answer}
 use Rattle.ibm1620_cli.specs.declared.status.Status.TheVariants.{HostFault}
@@ -26,13 +28,13 @@ use Rattle.outside_io.specs.Events.{Event, after_events, cards_in, lines_in, tex
 use Rattle.ibm1620_cli.specs.Ways.{Way, ByRun, in_turns}
 use Rattle.ibm1620_cli.specs.Promise.{MachineEnd, Job, LeavesMachine, ShowsRefusal, EndsWithAnswer, TakesNone, AsksForInputs, asked, StopsAt, Promise, KeepsPromise, is_own, is_usage}
 use Rattle.operator_script.specs.TurnEvents.{run_events}
-use Rattle.ibm1620_cli.specs.Turns.{status_of, LoadedMachine, turns_job, turns_promise}
+use Rattle.ibm1620_cli.specs.Turns.{status_of, ends_a_run, LoadedMachine, turns_job, turns_promise}
 use Rattle.ibm1620_cli.specs.Parts.{Reports, ShowsMachine}
 use Rattle.ibm1620_cli.proofs.ToldValues.{if_both, if_told, if_mapped, of_map}
 use Rattle.outside_io.proofs.EventLemmas.{did_on, first_on, first_more}
 use Rattle.ibm1620_cli.proofs.TakenInputs.{takes_before, taken_behind, left_as}
 use Rattle.ibm1620_cli.proofs.Leaving.{Supply, rest_at, HasReadOf, frames_read, machine_has, machine_asks}
-use Rattle.ibm1620_cli.proofs.KeptPromises.{ReadyJob, promise_report, promise_fault}
+use Rattle.ibm1620_cli.proofs.KeptPromises.{ReadyJob, neither, promise_report, promise_fault}
 use Rattle.cpu_step.proofs.Outside.{seen_by, did_between}
 use Rattle.operator_script.proofs.TurnEventLemmas.{last_does, last_takes, way_did}
 
@@ -101,7 +103,8 @@ pub record StandsFirst (m : ℕ) (own : Option (List (List ℕ))) (before : List
 module _ {A : Type 0} (m limit : ℕ) (own : Option (List (List ℕ))) (before : List Event) (loaded : A → LoadedMachine) (told : Option A) (machine ended : Machine m) (script left_script : Script) (start loaded_at ran : Seen)
     (later : start.faults ≤ loaded_at.faults) (counted : (a : A) → (loaded a).first.steps ≤ limit)
     (is_first : place_of m (run_state m machine script 0) loaded_at.world ≡ option_map (λ a. (loaded a).first) told) (did : IfSome told (λ a. DidAll (before ++ (loaded a).taken) start.world loaded_at.world))
-    (is_loaded : (a : A) → IsLoaded (loaded a)) (reads : IfSome told (λ a. HasReadOf m (supply_of own (loaded a)) machine loaded_at.world)) (none : TakesNone before) where
+    (is_loaded : (a : A) → IsLoaded (loaded a)) (reads : IfSome told (λ a. HasReadOf m (supply_of own (loaded a)) machine loaded_at.world)) (none : TakesNone before)
+    (settled : (u : unit.Unit) → is_said u ≡ false → loaded_at.world.written u ≡ (after_events start.world before).written u) where
   abbrev first : A → RunPlace
   first a = (loaded a).first
 
@@ -172,11 +175,12 @@ module _ {A : Type 0} (m limit : ℕ) (own : Option (List (List ℕ))) (before :
           program = refl;
         }
 
-    promise_out : (new : Seen) → is_own status ≡ true → is_usage status ≡ false → Reports ran new status answer.status → KeepsPromise promise start new answer
-    promise_out new ends usage reports =
-        promise_report promise start ran new status (report_line status) answer (omega (arith, later, out.frames.later)) ends usage (λ fault. shows.refusal) shows.statement
+    promise_out : (new : Seen) → ends_a_run status ≡ true → is_own status ≡ true → is_usage status ≡ false → Reports ran new status answer.status → KeepsPromise promise start new answer
+    promise_out new runs_out own_end usage reports =
+        promise_report promise start ran new status (report_line status) answer (omega (arith, later, out.frames.later)) own_end usage (λ fault. shows.refusal) shows.statement
         (if_mapped Ready (λ a. Ready (job a)) told job (λ a r. r)
         (if_both told ready here (if_told (Last how steps) told first (place_of m (run_state m machine script 0) loaded_at.world) is_first out.last)))
+        (record { ends = runs_out; written = λ u silent. out.frames.keeps.written u (neither (is_written u) (same_unit units.Report u) silent).0 ∙ settled u silent })
         reports
 
   abbrev OnTheWay : ℕ → RunPlace → Type 0
@@ -210,9 +214,9 @@ module _ {A : Type 0} (m limit : ℕ) (own : Option (List (List ℕ))) (before :
   pub promise_run : (steps : ℕ) (how : Ending) → Runs m limit (moment m machine script 0 loaded_at) (moment m ended left_script steps ran) how → (new : Seen) (answer : Answer) → Reports ran new (status_of steps how) answer.status → ShowsMachine m ended answer
       → KeepsPromise promise start new answer
   promise_run steps ending.Failed runs new answer reports shows = promise_break steps runs new answer reports shows
-  promise_run steps (ending.Halted at) runs new answer reports shows = promise_out steps (ending.Halted at) runs answer shows new refl refl reports
-  promise_run steps (ending.Stopped kind at) runs new answer reports shows = promise_out steps (ending.Stopped kind at) runs answer shows new refl refl reports
-  promise_run steps ending.Limit runs new answer reports shows = promise_out steps ending.Limit runs answer shows new refl refl reports
-  promise_run steps (ending.NeedCards at) runs new answer reports shows = promise_out steps (ending.NeedCards at) runs answer shows new refl refl reports
-  promise_run steps (ending.NeedKeys at) runs new answer reports shows = promise_out steps (ending.NeedKeys at) runs answer shows new refl refl reports
-  promise_run steps (ending.Jam u n) runs new answer reports shows = promise_out steps (ending.Jam u n) runs answer shows new refl refl reports
+  promise_run steps (ending.Halted at) runs new answer reports shows = promise_out steps (ending.Halted at) runs answer shows new refl refl refl reports
+  promise_run steps (ending.Stopped kind at) runs new answer reports shows = promise_out steps (ending.Stopped kind at) runs answer shows new refl refl refl reports
+  promise_run steps ending.Limit runs new answer reports shows = promise_out steps ending.Limit runs answer shows new refl refl refl reports
+  promise_run steps (ending.NeedCards at) runs new answer reports shows = promise_out steps (ending.NeedCards at) runs answer shows new refl refl refl reports
+  promise_run steps (ending.NeedKeys at) runs new answer reports shows = promise_out steps (ending.NeedKeys at) runs answer shows new refl refl refl reports
+  promise_run steps (ending.Jam u n) runs new answer reports shows = promise_out steps (ending.Jam u n) runs answer shows new refl refl refl reports

@@ -1,6 +1,6 @@
 -- The job assemble: the source is read and assembled, and the object deck, the image and the listing are written, or the first broken
 -- statement is reported.
-use Rattle.std.specs.Prelude.{ℕ, List, [], length, Some, false}
+use Rattle.std.specs.Prelude.{ℕ, List, [], length, Some, None, false}
 use Rattle.outside_io.specs.World.{World, Seen}
 use Rattle.sps_pass_two.specs.declared.assembled.Assembled as assembled
 use Rattle.sps_pass_two.specs.Kept.{digit_count}
@@ -22,6 +22,7 @@ assembled_status m form source =
 abbrev pub written_promise : ℕ → Settings → List ℕ → World → Promise
 written_promise m settings source w = record {
   job = Some (job_with_report (assembled_status m settings.form source) (made_events (made_of m settings.form source)));
+  outline = None;
   made = texts_alone (Some []);
   usage = false;
 }

@@ -1,6 +1,6 @@
 -- The job disk: the source is read and assembled, its bootstrap deck and its image are written, and then its sectors; or the first broken
 -- statement is reported.
-use Rattle.std.specs.Prelude.{ℕ, ◌≡◌, ◌⊎◌, List, [], ◌++◌, length, map, Some, false}
+use Rattle.std.specs.Prelude.{ℕ, ◌≡◌, ◌⊎◌, List, [], ◌++◌, length, map, Some, None, false}
 use Rattle.outside_io.specs.declared.host.Unit.TheVariants as units
 use Rattle.outside_io.specs.World.{World, Seen, world_after_put}
 use Rattle.sps_pass_two.specs.declared.assembled.Assembled as assembled
@@ -51,6 +51,7 @@ placing_events p = text_events units.Object p.deck ++ (text_events units.Image p
 abbrev pub placing_promise : ℕ → List ℕ → World → Promise
 placing_promise m source w = record {
   job = Some (job_with_report (placing_status m source) (placing_events (disk_placing m source)));
+  outline = None;
   made = texts_alone (Some []);
   usage = false;
 }

@@ -1,7 +1,7 @@
--- How a trial and a session end, where the host tells what they stand on.
+-- How a trial and a session end, whatever the host reveals of the input of the machine.
 use Rattle.std.specs.Prelude.{ℕ, ◌≡◌, ◌≢◌, ◌⊎◌, Bool, true, false, List, Some, None, Ok}
 use Rattle.outside_io.specs.declared.host.Unit.TheVariants as units
-use Rattle.outside_io.specs.World.{World, Seen, Rose}
+use Rattle.outside_io.specs.World.{World, Seen}
 use Rattle.digit_core.specs.Size.{size}
 use Rattle.operator_script.specs.declared.script.ScriptLine.{ScriptLine}
 use Rattle.console_debug.specs.declared.commands.DebugCommand as commands
@@ -9,35 +9,33 @@ use Rattle.sps_pass_two.specs.Broken.{refusal_of}
 use Rattle.command_line.specs.declared.words.Command.TheVariants.{Debug, Trial}
 use Rattle.command_line.specs.Words.{WordsSaid, plain}
 use Rattle.ibm1620_cli.specs.declared.status.Status.{Status}
-use Rattle.ibm1620_cli.specs.declared.status.Status.TheVariants.{Refused, SessionEnded, OutOfMemory}
+use Rattle.ibm1620_cli.specs.declared.status.Status.TheVariants.{Refused, SessionEnded, HostFault, OutOfMemory}
 use Rattle.ibm1620_cli.specs.Binding.{all_bound}
-use Rattle.ibm1620_cli.specs.Turns.{MachineFeed, feed_at, ends_a_run}
+use Rattle.ibm1620_cli.specs.Turns.{ends_a_run}
 use Rattle.ibm1620_cli.specs.Source.{source_read}
 use Rattle.ibm1620_cli.specs.LoadJob.{script_read}
 use Rattle.ibm1620_cli.specs.DebugJob.{commands_read}
 use Rattle.ibm1620_cli.specs.Job.{modules_of}
 
--- a trial: the words say `trial`, and the host tells what the machine is fed with; its source is made of the words alone
-pub record FedTrial (words : List (List ℕ)) (w : World) : Type 0 where
+-- a trial: the words say `trial`; its source is made of the words alone
+pub record SaidTrial (words : List (List ℕ)) : Type 0 where
   pub said : WordsSaid
   pub said_is : plain words ≡ Some said
   pub command : said.command ≡ Trial
-  pub feed : MachineFeed
-  pub feed_is : feed_at (all_bound said.names w) ≡ Some feed
 
 -- a statement of the source breaks a rule
 abbrev pub is_refused : Status → Bool
 is_refused (Refused statement rule) = true
 is_refused answer = false
 
--- Such a trial, in which no call of the host failed and memory was found, ends in one of the six ways of a run, or its source is refused.
+-- Such a trial, whose status is neither `HostFault` nor `OutOfMemory`, ends in one of the six ways of a run, or its source is refused.
 abbrev pub TrialEnds : List (List ℕ) → Seen → Seen → Status → Type 0
 TrialEnds words old new answer =
-    FedTrial words old.world → (Rose old.faults new.faults → ⊥) → answer ≢ OutOfMemory
+    SaidTrial words → answer ≢ HostFault → answer ≢ OutOfMemory
     → (ends_a_run answer ≡ true) ⊎ (is_refused answer ≡ true)
 
 -- a sound session: the words say `debug`; its script, its commands and its source are read, and no statement of the source breaks a rule.
--- The host tells their bytes, and what the machine is fed with.
+-- The host tells their bytes.
 pub record SoundSession (words : List (List ℕ)) (w : World) : Type 0 where
   pub said : WordsSaid
   pub said_is : plain words ≡ Some said
@@ -54,10 +52,8 @@ pub record SoundSession (words : List (List ℕ)) (w : World) : Type 0 where
   pub source_is : (all_bound said.names w).left units.Source ≡ Some source
   pub source_fits : source_read source ≡ Ok source
   pub unbroken : refusal_of (size (modules_of said.core)) source ≡ None
-  pub feed : MachineFeed
-  pub feed_is : feed_at (all_bound said.names w) ≡ Some feed
 
--- Such a session, in which no call of the host failed and memory was found, comes to its end.
+-- Such a session, whose status is neither `HostFault` nor `OutOfMemory`, comes to its end.
 abbrev pub SessionEnds : List (List ℕ) → Seen → Seen → Status → Type 0
 SessionEnds words old new answer =
-    SoundSession words old.world → (Rose old.faults new.faults → ⊥) → answer ≢ OutOfMemory → answer ≡ SessionEnded
+    SoundSession words old.world → answer ≢ HostFault → answer ≢ OutOfMemory → answer ≡ SessionEnded

@@ -1,5 +1,5 @@
 -- The job generate: a source is made by numbers.
-use Rattle.std.specs.Prelude.{[], Some, false}
+use Rattle.std.specs.Prelude.{[], Some, None, false}
 use Rattle.outside_io.specs.declared.host.Unit.TheVariants as units
 use Rattle.outside_io.specs.World.{World, Seen}
 use Rattle.outside_io.specs.Events.{text_events}
@@ -14,6 +14,7 @@ use Rattle.ibm1620_cli.specs.Promise.{job_with_report, texts_alone, Promise, Kee
 abbrev pub generate_promise : Settings → World → Promise
 generate_promise settings w = record {
   job = Some (job_with_report (Generated settings.statements) (text_events units.Made (source_deck settings.statements settings.number)));
+  outline = None;
   made = texts_alone (Some []);
   usage = false;
 }

@@ -2,14 +2,14 @@
 use Rattle.std.specs.Prelude.{ℕ, ◌≡◌, ◌≢◌, ◌≤◌, true, List, [], ◌∷◌, length, Some, None, IfSome, Ok, if◌then◌else◌}
 use Rattle.outside_io.specs.declared.host.Unit as unit
 use Rattle.outside_io.specs.declared.host.Unit.TheVariants as units
-use Rattle.outside_io.specs.World.{World, Seen, Rose, same_unit, all_units}
+use Rattle.outside_io.specs.World.{World, Seen, same_unit, all_units}
 use Rattle.outside_io.specs.Events.{Event, WriteByte}
 use Rattle.digit_core.specs.Size.{size}
 use Rattle.operator_script.specs.declared.script.ScriptLine.{ScriptLine}
 use Rattle.operator_script.specs.Script.{script_of}
 use Rattle.sps_pass_two.specs.Broken.{refusal_of}
 use Rattle.ibm1620_cli.specs.declared.answer.Answer.{Answer}
-use Rattle.ibm1620_cli.specs.declared.status.Status.TheVariants.{OutOfMemory}
+use Rattle.ibm1620_cli.specs.declared.status.Status.TheVariants.{HostFault, OutOfMemory}
 use Rattle.command_line.specs.declared.words.Command.TheVariants.{Run}
 use Rattle.command_line.specs.Words.{WordsSaid, plain}
 use Rattle.ibm1620_cli.specs.Job.{modules_of, bind_events}
@@ -75,8 +75,8 @@ pub record DoesProgram {words : List (List ℕ)} (old : Seen) (r : SoundRun word
   pub texts : (u : unit.Unit) → IfSome (new.world.written u) (λ text. text ≡ bytes_in u (job_in r).events)
   pub ending : ends_a_run answer.status ≡ true
 
--- A sound run, in which no call of the host failed and memory was found, does the program of its source.
+-- A sound run whose status is neither `HostFault` nor `OutOfMemory` does the program of its source.
 abbrev pub Headline : List (List ℕ) → Seen → Seen → Answer → Type 0
 Headline words old new answer =
-    (r : SoundRun words old.world) → (Rose old.faults new.faults → ⊥) → answer.status ≢ OutOfMemory
+    (r : SoundRun words old.world) → answer.status ≢ HostFault → answer.status ≢ OutOfMemory
     → DoesProgram old r new answer

@@ -68,7 +68,7 @@ said_promise said bound =
 
 -- words that are not plain: the line that says so, and nothing else
 abbrev pub usage_promise : Promise
-usage_promise = record { job = Some (job_with_report Usage []); made = texts_alone (Some []); usage = true }
+usage_promise = record { job = Some (job_with_report Usage []); outline = None; made = texts_alone (Some []); usage = true }
 
 -- what plain words say, from the world at the entry
 abbrev pub DoesSaid : WordsSaid → Seen → Seen → Answer → Type 0

@@ -19,6 +19,7 @@ pub mod DiskJob
 pub mod Job
 pub mod Parts
 pub mod Headline
+pub mod OverMemory
 pub mod Endings
 pub mod RoundTrip
 pub mod Answers

@@ -9,7 +9,7 @@ use Rattle.digit_core.specs.Size.{IsSize}
 use Rattle.indicators.specs.Panel.{dark, set}
 use Rattle.disk_1311.specs.declared.TheConstants.{DRIVES}
 use Rattle.card_code.specs.Entries.{Entry, Text, hopper_of, entries_of_unit, has_none_left}
-use Rattle.indicators.specs.declared.codes.TheConstants.{LAST_CARD}
+use Rattle.indicators.specs.Codes.{LAST_CARD}
 use Rattle.cpu_step.specs.declared.machine.Mode.TheVariants.{Running}
 use Rattle.cpu_step.specs.State.{UnitTexts, State}
 use Rattle.cpu_step.specs.Load.{load_key}

@@ -6,13 +6,14 @@ use Rattle.outside_io.specs.World.{World, Seen, Rose}
 use Rattle.card_code.specs.Entries.{Entry}
 use Rattle.card_unit.specs.declared.hopper.Hopper.{Hopper}
 use Rattle.card_unit.specs.Hopper.{hopper_left, own_cards, HasReadCards}
-use Rattle.typewriter.specs.declared.keyboard.Keyboard.{Keyboard}
+use Rattle.card_code.specs.declared.lines.Lines.{Lines}
 use Rattle.typewriter.specs.Keys.{keys_left}
 use Rattle.typewriter.specs.Keys as typewriter
 use Rattle.cpu_step.specs.State.{State}
 use Rattle.cpu_step.specs.Machine.{is_read}
 use Rattle.cpu_step.specs.declared.console.Console.{Console}
 use Rattle.cpu_step.specs.Console.{console_of}
+use Rattle.console_debug.specs.Debugs.{is_said}
 use Rattle.sps_pass_two.specs.Assembled.{PlacedText}
 use Rattle.sps_listing.specs.Listing.{statement_at}
 use Rattle.sps_listing.specs.Refused.{RefusedText, ShowsRefused}
@@ -23,7 +24,7 @@ use Rattle.ibm1620_cli.specs.declared.status.Status.{Status}
 use Rattle.ibm1620_cli.specs.declared.answer.Answer.{Answer}
 use Rattle.ibm1620_cli.specs.declared.status.Status.TheVariants.{Usage, HostFault, OutOfMemory}
 use Rattle.ibm1620_cli.specs.Report.{report_line}
-use Rattle.outside_io.specs.Events.{Event, cards_in, lines_in, text_events, IsFirstPart, DidAll, DidPart}
+use Rattle.outside_io.specs.Events.{Event, after_events, cards_in, lines_in, text_events, IsFirstPart, DidAll, DidPart}
 use Rattle.ibm1620_cli.specs.Makings.{AreMakings}
 use Rattle.ibm1620_cli.specs.Ways.{Way, StandsOn}
 
@@ -79,10 +80,21 @@ pub record Making : Type 0 where
 abbrev pub texts_alone : Option (List Event) → Making
 texts_alone texts = record { bindings = []; texts = texts }
 
--- The promise of a job: what it does, where the host tells what its machine is fed with; what is done where no memory was found; and
--- whether the words are not plain.
+-- What is known of a job with a machine, even if the host does not reveal the input of the machine: the statuses with which the job may end, and
+-- all that it does before power on.
+pub record Outline : Type 0 where
+  pub ends : Status → Bool
+  pub before : List Event
+
+-- the same after some events
+abbrev pub outline_after : List Event → Outline → Outline
+outline_after before o = record { ends = o.ends; before = before ++ o.before }
+
+-- The promise of a job: what it does, if the host reveals the input of its machine; what is known of it even if the host does not; what is done if
+-- no memory was found; and whether the words are not plain.
 pub record Promise : Type 0 where
   pub job : Option Job
+  pub outline : Option Outline
   pub made : Making
   pub usage : Bool
 
@@ -93,6 +105,7 @@ job_with_program p j = record j { program = Some p }
 abbrev pub promise_with_program : ProgramTexts → Promise → Promise
 promise_with_program p c = record {
   job = option_map (job_with_program p) c.job;
+  outline = c.outline;
   made = c.made;
   usage = c.usage;
 }
@@ -104,6 +117,7 @@ job_behind before j = record j { events = before ++ j.events }
 abbrev pub promise_behind : List Event → Promise → Promise
 promise_behind before c = record {
   job = option_map (job_behind before) c.job;
+  outline = option_map (outline_after before) c.outline;
   made = record { bindings = before ++ c.made.bindings; texts = c.made.texts };
   usage = c.usage;
 }
@@ -125,7 +139,7 @@ is_usage answer = false
 -- since power on.
 pub record HasLeft (r : MachineEnd) (cards keys : List Entry) (state : State) (shown : Option Console) (w : World) : Type 0 where
   pub hopper : Hopper
-  pub keyboard : Keyboard
+  pub keyboard : Lines
   pub own_is : own_cards hopper ≡ r.own
   pub cards_are : hopper_left hopper w ≡ Some cards
   pub lines_are : keys_left keyboard w ≡ Some keys
@@ -177,11 +191,18 @@ pub record EndsWithAnswer (j : Job) (old new : Seen) (answer : Answer) : Type 0 
   pub refusal : ShowsRefusal j.refusal answer.refusal
   pub statement : ShowsStatement j.program answer.console answer.statement
 
+-- A job ended with one of these statuses. Its machine wrote on Punched and Typed alone, and the job on Report. Every other unit, Object, Image
+-- and Listing among them, has the bytes that it had at power on.
+pub record KeepsOutline (o : Outline) (old new : World) (status : Status) : Type 0 where
+  pub ends : o.ends status ≡ true
+  pub written : (u : unit.Unit) → is_said u ≡ false → new.written u ≡ (after_events old o.before).written u
+
 -- an end of the job's own: all of it was done
 pub record OwnEnd (c : Promise) (old new : Seen) (answer : Answer) : Type 0 where
   pub own : is_own answer.status ≡ true
   pub usage_is : is_usage answer.status ≡ c.usage
   pub all : IfSome c.job (λ j. EndsWithAnswer j old new answer)
+  pub outline : IfSome c.outline (λ o. KeepsOutline o old.world new.world answer.status)
 
 -- the answer of a status alone, with no console and no statement
 abbrev pub answer_of : Status → Answer
@@ -246,11 +267,17 @@ abbrev pub job_read : {A : Type 0} → (A → Option Job) → Result A Status �
 job_read next (Ok what) = next what
 job_read next (Err s) = Some (job_with_report s [])
 
+-- the outline of the job by what was read; a job that ends there has no machine
+abbrev pub outline_read : {A : Type 0} → (A → Option Outline) → Result A Status → Option Outline
+outline_read next (Ok what) = next what
+outline_read next (Err s) = None
+
 -- THE PROMISE OF A JOB that begins with the reading of a unit, by that of the rest of the job
 abbrev pub read_promise : {A : Type 0} → unit.Unit → (List ℕ → Result A Status) → (World → Option (List Event))
     → (A → World → Promise) → World → Promise
 read_promise u read made next w = record {
   job = option_and_then (λ text. job_read (λ what. (next what w).job) (read text)) (w.left u);
+  outline = option_and_then (λ text. outline_read (λ what. (next what w).outline) (read text)) (w.left u);
   made = texts_alone (made w);
   usage = false;
 }

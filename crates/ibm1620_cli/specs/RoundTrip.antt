@@ -2,12 +2,12 @@
 -- ends and does what comes of that.
 use Rattle.std.specs.Prelude.{ℕ, ◌≡◌, ◌≢◌, ◌≤◌, ◌+◌, List, ◌++◌, length, map, replicate, slice_set, Some, None, IfSome, Ok}
 use Rattle.outside_io.specs.declared.host.Unit.TheVariants as units
-use Rattle.outside_io.specs.World.{World, Seen, Rose, all_units}
+use Rattle.outside_io.specs.World.{World, Seen, all_units}
 use Rattle.outside_io.specs.Events.{Event, text_events, DidAll}
 use Rattle.digit_core.specs.{zero_cell}
 use Rattle.digit_core.specs.Size.{IsSize, size}
 use Rattle.indicators.specs.Panel.{dark, set}
-use Rattle.indicators.specs.declared.codes.TheConstants.{LAST_CARD}
+use Rattle.indicators.specs.Codes.{LAST_CARD}
 use Rattle.card_code.specs.Entries.{Text, entries_of_unit, has_none_left}
 use Rattle.disk_1311.specs.declared.TheConstants.{DRIVES}
 use Rattle.cpu_step.specs.declared.machine.Mode.TheVariants.{Running}
@@ -32,7 +32,7 @@ use Rattle.disk_loader.specs.BootstrapDeck.{boot_steps}
 use Rattle.command_line.specs.declared.words.Command.TheVariants.{Load}
 use Rattle.command_line.specs.Words.{WordsSaid, plain}
 use Rattle.ibm1620_cli.specs.declared.answer.Answer.{Answer}
-use Rattle.ibm1620_cli.specs.declared.status.Status.TheVariants.{OutOfMemory}
+use Rattle.ibm1620_cli.specs.declared.status.Status.TheVariants.{HostFault, OutOfMemory}
 use Rattle.ibm1620_cli.specs.Binding.{all_bound}
 use Rattle.ibm1620_cli.specs.Report.{report_line}
 use Rattle.ibm1620_cli.specs.Promise.{Job, job_behind, job_leaving, EndsWithAnswer}
@@ -205,9 +205,9 @@ pub record SoundRoundTrip (words : List (List ℕ)) (w : World) : Type 0 where
   pub steps_are : load.steps ≡ steps_of_deck (program_of (modules_of load.said.core) form source)
   pub deck_is : (all_bound load.said.names w).left units.Deck ≡ Some (made_of (modules_of load.said.core) form source).object
 
--- Such a load, in which no call of the host failed and memory was found, does what the program does that is entered.
+-- Such a load, whose status is neither `HostFault` nor `OutOfMemory`, does what the program does that is entered.
 abbrev pub RoundTrip : List (List ℕ) → Seen → Seen → Answer → Type 0
-RoundTrip words old new answer = (r : SoundRoundTrip words old.world) → (Rose old.faults new.faults → ⊥) → answer.status ≢ OutOfMemory
+RoundTrip words old new answer = (r : SoundRoundTrip words old.world) → answer.status ≢ HostFault → answer.status ≢ OutOfMemory
     → let p = program_of (modules_of r.load.said.core) r.form r.source in
     EndsWithAnswer (later_job r.load (deck_of p) (set_up_at_start p r.load.feed)) old new answer
 
@@ -221,8 +221,8 @@ pub record SoundDiskRoundTrip (words : List (List ℕ)) (w : World) : Type 0 whe
   pub deck_is : (all_bound load.said.names w).left units.Deck ≡ Some (deck_text (boot_cards (modules_of load.said.core) source))
   pub sectors : HasSectors (assembled_source (modules_of load.said.core) source).pieces load.feed.sectors
 
--- Such a load, in which no call of the host failed and memory was found, does what the program does that is entered from disk.
+-- Such a load, whose status is neither `HostFault` nor `OutOfMemory`, does what the program does that is entered from disk.
 abbrev pub DiskRoundTrip : List (List ℕ) → Seen → Seen → Answer → Type 0
-DiskRoundTrip words old new answer = (r : SoundDiskRoundTrip words old.world) → (Rose old.faults new.faults → ⊥) → answer.status ≢ OutOfMemory
+DiskRoundTrip words old new answer = (r : SoundDiskRoundTrip words old.world) → answer.status ≢ HostFault → answer.status ≢ OutOfMemory
     → let m = modules_of r.load.said.core in
     EndsWithAnswer (later_job r.load (boot_cards m r.source) (set_up_from_disk m r.source r.load.feed)) old new answer

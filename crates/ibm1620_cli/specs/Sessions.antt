@@ -1,11 +1,12 @@
 -- The session of a machine that has been set up, and what it does.
-use Rattle.std.specs.Prelude.{ℕ, List, ◌++◌, Option, Some, false, option_map}
+use Rattle.std.specs.Prelude.{ℕ, Bool, List, ◌++◌, Option, Some, true, false, option_map}
 use Rattle.outside_io.specs.Events.{Event}
 use Rattle.operator_script.specs.declared.script.ScriptLine.{ScriptLine}
 use Rattle.operator_script.specs.Turn.{RunPlace}
 use Rattle.sps_pass_two.specs.Assembled.{PlacedText}
 use Rattle.console_debug.specs.declared.commands.DebugCommand.{DebugCommand}
 use Rattle.console_debug.specs.Session.{Course as SessionCourse, Session, session_of, at_first, place_of_session, session_events}
+use Rattle.ibm1620_cli.specs.declared.status.Status.{Status}
 use Rattle.ibm1620_cli.specs.declared.status.Status.TheVariants.{SessionEnded}
 use Rattle.ibm1620_cli.specs.Report.{report_line}
 use Rattle.ibm1620_cli.specs.Ways.{BySession}
@@ -37,11 +38,17 @@ session_job own before g loaded =
     (Some (BySession loaded.powered (course_from g loaded.first) session.acts)) SessionEnded (report_line SessionEnded)
     (before ++ (loaded.taken ++ session_events (course_from g loaded.first) session.acts))
 
--- THE PROMISE OF A SESSION over a machine that is loaded by what the host tells, behind what was done before; no more than that is done
--- where no memory was found
+-- a session comes to its end
+abbrev pub ends_a_session : Status → Bool
+ends_a_session SessionEnded = true
+ends_a_session other = false
+
+-- THE PROMISE OF A SESSION over a machine that is loaded by what the host tells, behind what was done before; a session comes to its end, whatever
+-- the host tells; no more than that is done where no memory was found
 abbrev pub session_promise : {A : Type 0} → Option (List (List ℕ)) → List Event → Debugging → (A → LoadedMachine) → Option A → Promise
 session_promise own before g loaded told = record {
   job = option_map (λ a. session_job own before g (loaded a)) told;
+  outline = Some (record { ends = ends_a_session; before = before });
   made = texts_alone (Some before);
   usage = false;
 }

@@ -86,7 +86,7 @@ refused_job source r =
 
 -- by the first broken statement of a source: it's refused, or what follows is done
 abbrev pub promise_by : (List ℕ → World → Promise) → List ℕ → Option Refusal → World → Promise
-promise_by next source (Some r) w = record { job = Some (refused_job source r); made = texts_alone (Some []); usage = false }
+promise_by next source (Some r) w = record { job = Some (refused_job source r); outline = None; made = texts_alone (Some []); usage = false }
 promise_by next source None w = next source w
 
 abbrev pub assembly_promise : ℕ → (List ℕ → World → Promise) → List ℕ → World → Promise

@@ -55,6 +55,7 @@ job_of_trial settings cards j = record j {
 abbrev pub with_trial : Settings → ℕ → Promise → Promise
 with_trial settings cards c = record {
   job = option_map (job_of_trial settings cards) c.job;
+  outline = c.outline;
   made = c.made;
   usage = c.usage;
 }

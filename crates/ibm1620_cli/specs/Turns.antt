@@ -100,11 +100,12 @@ turns_job own before limit loaded =
     (Some (ByRun loaded.powered loaded.steps limit loaded.first)) status (report_line status)
     (before ++ (loaded.taken ++ run_events limit loaded.first))
 
--- THE PROMISE OF THE TURNS of a machine that is loaded by what the host tells, behind what was done before; no more than that is done where
--- no memory was found
+-- THE PROMISE OF THE TURNS of a machine that is loaded by what the host tells, behind what was done before; a run ends in one of the six ways,
+-- whatever the host tells; no more than that is done where no memory was found
 abbrev pub turns_promise : {A : Type 0} → Option (List (List ℕ)) → List Event → ℕ → (A → LoadedMachine) → Option A → Promise
 turns_promise own before limit loaded told = record {
   job = option_map (λ a. turns_job own before limit (loaded a)) told;
+  outline = Some (record { ends = ends_a_run; before = before });
   made = texts_alone (Some before);
   usage = false;
 }

@@ -28,7 +28,7 @@ mod trial;
 
 pub use answer::Answer;
 pub use disk::{disk_trip_law, placing_law};
-pub use program::{headline_law, prompt_law, trip_law};
+pub use program::{headline_law, headline_over_memory, prompt_law, trip_law};
 pub use sps_generator::generate;
 pub use sps_listing::{OtherStatement, RefusedLine, StandingLine};
 pub use status::Status;

@@ -9,15 +9,20 @@ ghost use Rattle.ibm1620_cli.specs.Prompts.{PromptLaw};
 ghost use Rattle.ibm1620_cli.specs.RoundTrip.{RoundTripLaw};
 ghost use Rattle.ibm1620_cli.specs.Parts.{ProgramPromise, LeavesUnread};
 ghost use Rattle.ibm1620_cli.specs.Inputs.{reads_feed};
+ghost use Rattle.ibm1620_cli.specs.Job.{word_bytes};
+ghost use Rattle.ibm1620_cli.specs.OverMemory.{HeadlineOverMemory};
+ghost use Rattle.outside_io.specs.World.{IsFresh};
+ghost use Rattle.outside_io.specs.Mem.{mem_seen};
 
 use crate::answer::Answer;
 use crate::execute::execute;
+use crate::top::ibm1620_answer;
 use card_code::Card;
 use card_unit::Hopper;
 use command_line::Settings;
 use loader_cards::deck_steps;
 use operator_script::Script;
-use outside_io::Host;
+use outside_io::{Host, MemHost};
 use std::alloc::Global;
 
 // Loads a program's deck, whose cards these are and which has the form of the settings, takes the turns under the script from the
@@ -65,6 +70,19 @@ pub(crate) fn run_program<const M: u32, H: Host>(
 pub fn headline_law()
     ensures { HeadlineLaw }
 {}
+
+/// Does what the words say over a host in memory, as `ibm1620_answer` does. Its contract is the headline, with premises that a caller can see
+/// before the call: no fault was counted, no call is listed to fail, and each output has room for more bytes than the run writes on it.
+///
+/// No unit of the host is in use, and no output has been given a byte.
+pub fn headline_over_memory(alloc: Global, words: &[String], host: &mut MemHost) -> Answer
+    requires { IsFresh (mem_seen host.old).world }
+    ensures { HeadlineOverMemory (word_bytes words.now) (mem_seen host.old) (mem_seen host.new) result }
+{
+    let answer = ibm1620_answer(alloc, words, host);
+    host.fault_law();
+    answer
+}
 
 /// The prompt: no line of Keys is read before all that stands in front of it is done.
 ///

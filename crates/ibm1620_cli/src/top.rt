@@ -30,11 +30,12 @@ use std::alloc::{AllocError, Global};
 /// how that ended, with the machine's console, the statement of a refused source, and the statement at IR.
 ///
 /// - `told`: all that is done outside is one list, by the words and the inputs; after a fault of the host a first part of it is done. `HostFault`
-///   comes only where a call of the host failed, and `OutOfMemory` before a machine is powered on.
+///   comes only where a call of the host failed, and `OutOfMemory` before a machine is powered on. Even if the host does not reveal the input of
+///   the machine, the status is one with which such a job may end, and Object, Image and Listing have what they had at power on.
 /// - `bound`: files are bound in the order of units, each to the unit that its option names, and no other.
 /// - `unread`: an input that the command does not read keeps all that it had and is not asked; a pack that it doesn't work with keeps its sectors.
 /// - `headline`: a source that breaks no rule runs as its image says, by the table of instructions.
-/// - `trial`, `session`: the ways in which a trial ends, and a session.
+/// - `trial`, `session`: the ways in which a trial ends, and a session, whatever the host reveals of the input of the machine.
 /// - `trip`, `disk_trip`: a deck that `assemble` or `disk` punched does, when it is loaded, what its program does.
 ///
 /// docs/promises.md says each of these in full under 'The whole program', and docs/formats.md which words are plain.

@@ -2,6 +2,7 @@
 #![tactic(auto)]
 
 ghost use Rattle.std.specs.Prelude.{◌≡◌, IsTrue};
+ghost use Rattle.indicators.specs.Codes.{code_constants, indicator_codes};
 
 mod codes;
 
@@ -218,6 +219,13 @@ impl Panel {
         };
     }
 }
+
+/// The law of the codes: the constants are the codes of the definition.
+///
+/// Source: CPU manual, branch indicator.
+pub fn indicator_law()
+    ensures { code_constants ≡ indicator_codes }
+{}
 
 impl Default for Panel {
     ghost use Rattle.indicators.specs.Panel.{dark};

@@ -1,17 +1,65 @@
--- The table of instructions, which is the code's own, `INSTRUCTIONS`: to be compared with the manual there.
--- Source: CPU manual, operation codes; SPS manual, flag operand; the special features are this project's own.
-use Rattle.std.specs.Prelude.{ℕ, ◌≡◌, ◌==◌, not, true, false, ◌&&◌, Bool, List, [], ◌∷◌, map, Option, Some, None, if◌then◌else◌, bytes_eq}
+-- The table of instructions, to be compared with the manual.
+-- Source: CPU manual, operation codes; the special features, and which codes get a flag on Q7, are this project's own.
+use Rattle.std.specs.Prelude.{ℕ, ◌≡◌, ◌==◌, not, true, false, ◌&&◌, Bool, List, [], ◌∷◌, map, codes, Option, Some, None, if◌then◌else◌, bytes_eq}
 use Rattle.std.specs.List.{list_any}
+use Prim.Native.String.{String}
 use Rattle.instruction_table.specs.declared.InstructionRow.{InstructionRow}
 use Rattle.instruction_table.specs.declared.Op.{Op}
+use Rattle.instruction_table.specs.declared.Op.TheVariants.{A, S, C, Move, Feature, Branch, K, Dn, Rn, Ra, Wn, Wa, Nop, H}
+use Rattle.instruction_table.specs.declared.MoveOp.TheVariants.{Td, Tf, Tr, Sf, Cf}
+use Rattle.instruction_table.specs.declared.FeatureOp.TheVariants.{Mf, Tns, Tnf}
+use Rattle.instruction_table.specs.declared.BranchOp.TheVariants.{Bt, Bb, Bd, Bnf, Bnr, Bng, Bi, Bni, B}
 use Rattle.instruction_table.specs.declared.MayStore.{MayStore}
+use Rattle.instruction_table.specs.declared.MayStore.TheVariants.{Nothing, Cell, Down, DownBelow, DownFromQ, Up, Anywhere, ByDevice}
 use Rattle.instruction_table.specs.declared.OperandUse.{OperandUse}
 use Rattle.instruction_table.specs.declared.OperandUse.TheVariants.{Both, OddBoth, Field, Digit, Indicator, First, OddFirst, Neither, FirstByDevice}
-use Rattle.instruction_table.specs.declared.TheConstants.{INSTRUCTIONS}
+
+-- a row: code, mnemonic, operation, the operands that it uses, and the cells that it may store
+abbrev pub table_row : ℕ → String → Op → OperandUse → MayStore → List ℕ × InstructionRow
+table_row code mnemonic op uses stores = (codes mnemonic, record { 0 = code; 1 = op; 2 = uses; 3 = stores })
+
+-- the instructions, each under its mnemonic, in the order of the manual
+abbrev pub named_instructions : List (List ℕ × InstructionRow)
+named_instructions =
+    table_row 21 "A" A Both Down ∷
+    table_row 11 "AM" A Field Down ∷
+    table_row 22 "S" S Both Down ∷
+    table_row 12 "SM" S Field Down ∷
+    table_row 24 "C" C Both Nothing ∷
+    table_row 14 "CM" C Field Nothing ∷
+    table_row 25 "TD" (Move Td) Both Cell ∷
+    table_row 15 "TDM" (Move Td) Digit Cell ∷
+    table_row 26 "TF" (Move Tf) Both Down ∷
+    table_row 16 "TFM" (Move Tf) Field Down ∷
+    table_row 27 "BT" (Branch Bt) Both DownBelow ∷
+    table_row 17 "BTM" (Branch Bt) Field DownBelow ∷
+    table_row 31 "TR" (Move Tr) Both Up ∷
+    table_row 32 "SF" (Move Sf) First Cell ∷
+    table_row 33 "CF" (Move Cf) First Cell ∷
+    table_row 34 "K" K FirstByDevice ByDevice ∷
+    table_row 35 "DN" Dn First Nothing ∷
+    table_row 36 "RN" Rn First Anywhere ∷
+    table_row 37 "RA" Ra OddFirst Anywhere ∷
+    table_row 38 "WN" Wn First ByDevice ∷
+    table_row 39 "WA" Wa OddFirst Nothing ∷
+    table_row 41 "NOP" Nop Neither Nothing ∷
+    table_row 42 "BB" (Branch Bb) Neither Nothing ∷
+    table_row 43 "BD" (Branch Bd) Both Nothing ∷
+    table_row 44 "BNF" (Branch Bnf) Both Nothing ∷
+    table_row 45 "BNR" (Branch Bnr) Both Nothing ∷
+    table_row 55 "BNG" (Branch Bng) Both Nothing ∷
+    table_row 46 "BI" (Branch Bi) Indicator Nothing ∷
+    table_row 47 "BNI" (Branch Bni) Indicator Nothing ∷
+    table_row 48 "H" H Neither Nothing ∷
+    table_row 49 "B" (Branch B) First Nothing ∷
+    table_row 71 "MF" (Feature Mf) Both Anywhere ∷
+    table_row 72 "TNS" (Feature Tns) OddBoth DownFromQ ∷
+    table_row 73 "TNF" (Feature Tnf) OddBoth Down ∷
+    []
 
 -- the rows
 abbrev pub instructions : List InstructionRow
-instructions = map (λ r. r.1) INSTRUCTIONS
+instructions = map (λ r. r.1) named_instructions
 
 -- what a row says
 abbrev pub code_of : InstructionRow → ℕ
@@ -44,7 +92,7 @@ abbrev pub codes_once : Type 0
 codes_once = once (λ a b. a == b) (map code_of instructions) ≡ true
 
 abbrev pub mnemonics_once : Type 0
-mnemonics_once = once bytes_eq (map (λ r. r.0.now) INSTRUCTIONS) ≡ true
+mnemonics_once = once bytes_eq (map (λ r. r.0) named_instructions) ≡ true
 
 -- Q is a field in the instruction itself
 abbrev pub takes_field : OperandUse → Bool
@@ -66,6 +114,6 @@ codes_in (r ∷ rs) = if takes_field (uses_of r) then code_of r ∷ codes_in rs 
 abbrev pub codes_with_a_field_in_q : List ℕ
 codes_with_a_field_in_q = codes_in instructions
 
--- the codes at which the assembler's manual sets a flag on Q7: AM, SM, CM, TFM and BTM
+-- the codes that get a flag on Q7 if the flag operand is empty: AM, SM, CM, TFM and BTM
 abbrev pub flagged_by_the_assembler : List ℕ
 flagged_by_the_assembler = 11 ∷ 12 ∷ 14 ∷ 16 ∷ 17 ∷ []

@@ -1,10 +1,12 @@
 //! The table of instructions: the code, the mnemonic and the operation of each, the operands that it uses, and what it may store.
 //!
-//! The machine, the assembler and their definitions go by this one table. It says nothing of what an operation does.
+//! The machine and the assembler go by this one table, and their definitions by the rows of `specs/Table.antt`: [`instruction_law`] says
+//! that both are the same. The table says nothing of what an operation does.
 #![tactic(auto)]
 
 ghost use Rattle.std.specs.Prelude.{◌≡◌, map};
-ghost use Rattle.instruction_table.specs.Table.{instruction_of, row_in, codes_once, mnemonics_once, codes_with_a_field_in_q, flagged_by_the_assembler};
+ghost use Rattle.instruction_table.specs.declared.TheConstants.{INSTRUCTIONS};
+ghost use Rattle.instruction_table.specs.Table.{named_instructions, instruction_of, row_in, codes_once, mnemonics_once, codes_with_a_field_in_q, flagged_by_the_assembler};
 
 use crate::BranchOp::{B, Bb, Bd, Bi, Bnf, Bng, Bni, Bnr, Bt};
 use crate::FeatureOp::{Mf, Tnf, Tns};
@@ -222,10 +224,12 @@ fn row_in(rows: &[(&str, InstructionRow)], code: u8) -> Option<InstructionRow>
     None
 }
 
-/// The law of the table: no code and no mnemonic stands twice, and a field in Q have the instructions on whose Q7 the assembler sets a flag.
+/// The law of the table: its rows are those of the definition, no code and no mnemonic is in it twice, and the instructions with a field
+/// in Q are the ones on whose Q7 the assembler sets a flag if their flag operand is empty.
 ///
-/// Source: CPU manual, operation codes; SPS manual, flag operand.
+/// Source: CPU manual, operation codes; which codes get a flag on Q7 is this project's own.
 pub fn instruction_law()
+    ensures rows { map (λ r. (r.0.now, r.1)) INSTRUCTIONS ≡ named_instructions }
     ensures codes { codes_once }
     ensures mnemonics { mnemonics_once }
     ensures fields { codes_with_a_field_in_q ≡ flagged_by_the_assembler }

@@ -1,8 +1,8 @@
 -- What a job says of its end.
 use Rattle.std.specs.Prelude.{ℕ, ◌≡◌, Bool, true, false, ◌&&◌, ◌||◌, ◌==◌, List, [], ◌++◌, Option, None, Some, IfOk, option_copied, is_none, if◌then◌else◌}
 use Rattle.std.specs.Fmt.{option_append}
-use Rattle.read_checks.specs.declared.Tally.{Tally}
-use Rattle.read_checks.specs.declared.BadCharacter.{BadCharacter}
+use Rattle.card_code.specs.declared.tally.Tally.{Tally}
+use Rattle.card_code.specs.declared.tally.BadCharacter.{BadCharacter}
 use Rattle.command_line.specs.Words.{plain}
 use Rattle.command_line.specs.Given.{MeansJust}
 use Rattle.command_line.specs.Known.{file_of}

@@ -8,18 +8,18 @@ use crate::names::SOME_FILE;
 use crate::statuses::Happened;
 use crate::told::{BadCharacters, LostCards, Standing};
 use crate::words::named;
+use card_code::Tally;
 use command_line::Read;
 use cpu_step::Console;
 use ibm1620_cli::{Answer, StandingLine, Status};
 use message_hints::{Confusion, Misuse, Refused, Stopped};
 use outside_io::{Trouble, Unit};
-use read_checks::Tally;
 use std::fmt;
 
 /// How a job ended, and what is told of it.
 #[derive(Clone, Copy)]
 pub struct JobEnding<'a> {
-    /// How it ended, its files finished.
+    /// How it ended.
     pub status: Status,
     /// What the program's call answered.
     pub answer: &'a Answer,

@@ -3,9 +3,9 @@ ghost use Rattle.std.specs.Prelude.{Some};
 ghost use Rattle.job_messages.specs.Told.{bad_text, further_text, lost_text, number_text, source_line_text, standing_message, numbered_statement};
 
 use crate::names::Named;
+use card_code::BadCharacter;
 use ibm1620_cli::StandingLine;
 use message_hints::{Cell, Cells};
-use read_checks::BadCharacter;
 use std::fmt;
 
 // Bad characters that were read: the first one, with the file of its unit, and how many there were.

@@ -1,10 +1,10 @@
 // What an answer has besides its status, as it is shown: the console of its machine, the statement that its source was refused for, and the
 // one that stands at IR.
 use crate::texts::shown_line;
+use card_code::{BadCharacter, Tally};
 use cpu_step::{CheckPart, Console};
 use indicators::Panel;
 use outside_io::Unit;
-use read_checks::{BadCharacter, Tally};
 use sps_listing::{OtherStatement, RefusedLine, StandingLine};
 use std::alloc::{AllocError, Global};
 use std::io;

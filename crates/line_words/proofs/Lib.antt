@@ -2,4 +2,3 @@ pub mod WordsBehind
 pub mod Cutting
 pub mod EndBlanks
 pub mod Numbers
-pub mod Reading

@@ -1,6 +1,5 @@
 pub mod Arguments
 pub mod Blanks
 pub mod Decimals
-pub mod Lines
 pub mod Rows
 pub mod Words

@@ -6,12 +6,10 @@
 
 mod arguments;
 mod blanks;
-mod lines;
 mod rows;
 mod words;
 
 pub use arguments::{Span, alone, number_below, one_of, one_word, span_below, two_words};
 pub use blanks::trimmed;
-pub use lines::{LineFault, LineGrammar, read_lines};
 pub use rows::find;
 pub use words::{LARGEST_NUMBER, cut_word, number, number_in};

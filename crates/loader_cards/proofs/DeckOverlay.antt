@@ -8,7 +8,7 @@ use Rattle.indicators.specs.Panel.{set}
 use Rattle.indicators.specs.Lamps.{panel_for_load}
 use Rattle.branch_ops.specs.Registers.{on_at}
 use Rattle.card_code.specs.Entries.{Entry, Text, has_none_left}
-use Rattle.indicators.specs.declared.codes.TheConstants.{LAST_CARD}
+use Rattle.indicators.specs.Codes.{LAST_CARD}
 use Rattle.card_unit.specs.CardCalls.{panel_after_card}
 use Rattle.card_unit.specs.Reader.{read_card_numeric}
 use Rattle.cpu_step.specs.declared.machine.Mode.TheVariants.{Running}

@@ -5,9 +5,8 @@ ghost use Rattle.message_hints.specs.Mistakes.{confusion_text};
 
 use crate::escapes::Escaped;
 use crate::sheet::{OPERATION, SheetColumns};
-use card_code::object_digit;
+use card_code::{BadCharacter, object_digit};
 use outside_io::Unit;
-use read_checks::BadCharacter;
 use sps_listing::RefusedLine;
 use sps_ops::lookup;
 use std::fmt;

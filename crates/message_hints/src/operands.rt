@@ -3,9 +3,9 @@ use crate::marks::bad_column;
 use crate::sheet::{OPERANDS, SheetColumns};
 use crate::slips::{LongName, Slip};
 use line_words::trimmed;
-use sps_ops::{Declarative, Operation, Rule, most_parts};
+use sps_ops::Rule;
 use sps_pass_one::part_at;
-use sps_scan::{Statement, scan};
+use sps_scan::{Statement, most_parts, scan};
 
 // The most letters and digits that a name has.
 const LONGEST_NAME: usize = 6;
@@ -77,12 +77,13 @@ fn up_to_bad_column(line: &[u8]) -> Option<&[u8]> {
 
 // The remark in a part; a DAC has none in its text, which may have blanks.
 fn remark_in<'s>(s: &Statement<'s>, part: &'s [u8]) -> Option<Slip<'s>> {
-    if matches!(s.found, Some(Operation::Declare(Declarative::Dac))) || !has_words(part) {
+    let operation = trimmed(s.operation);
+    if matches!(operation, b"DAC") || !has_words(part) {
         return None;
     }
     Some(Slip::Remark {
-        operation: trimmed(s.operation),
-        commas: most_parts(s.found),
+        operation,
+        commas: most_parts(operation),
     })
 }
 

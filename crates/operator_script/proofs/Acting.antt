@@ -1,6 +1,8 @@
 -- What the operator's actions do to a machine that shows a state.
 use Rattle.std.proofs.Common.{◌≡◌, ℕ, List, refl, false}
+use Rattle.outside_io.specs.declared.host.Unit.TheVariants as units
 use Rattle.outside_io.specs.World.{World, Seen}
+use Rattle.card_code.specs.Reader.{unit_of}
 use Rattle.card_code.specs.Entries.{Entry}
 use Rattle.indicators.specs.declared.Panel.{Panel}
 use Rattle.cpu_step.specs.declared.machine.Machine.{Machine}
@@ -13,14 +15,14 @@ use Rattle.operator_script.specs.declared.script.Action.TheVariants as action
 use Rattle.operator_script.specs.Turn.{state_after_action, mode_at_start}
 
 -- an action within panel and mode: the rest of the machine stays
-pub set_made : (m : ℕ) (f : State → State) (old : Machine m) (panel : Panel) (to : Mode) (before : Seen)
-    → ((w : World) (h k : List Entry) (p : ℕ → List ℕ) → f (state_with m old w h k p) ≡ state_with m (record old { panel = panel; mode = to }) w h k p)
-    → Makes m f old (record old { panel = panel; mode = to }) before before
-set_made m f old panel to before same = record {
+pub set_made : (m : ℕ) (f : State → State) (old : Machine m) (panel : Panel) (to : Mode) (of_keys : unit_of old.keys ≡ units.Keys) (before : Seen)
+    → ((w : World) (h k : List Entry) (p : ℕ → List ℕ) → f (state_with m old w h k p) ≡ state_with m (record old { panel = panel; mode = to; keys_are = of_keys }) w h k p)
+    → Makes m f old (record old { panel = panel; mode = to; keys_are = of_keys }) before before
+set_made m f old panel to of_keys before same = record {
   state = some_state m old before.world;
   shown = some_shown m old before.world;
-  made = settles m f old (record old { panel = panel; mode = to }) refl refl same before.world (some_state m old before.world) (some_shown m old before.world);
-  frames = frames_same m old (record old { panel = panel; mode = to }) before refl refl;
+  made = settles m f old (record old { panel = panel; mode = to; keys_are = of_keys }) refl refl same before.world (some_state m old before.world) (some_shown m old before.world);
+  frames = frames_same m old (record old { panel = panel; mode = to; keys_are = of_keys }) before refl refl;
 }
 
 -- an action within core

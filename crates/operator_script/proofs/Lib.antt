@@ -1,3 +1,4 @@
+pub mod Reading
 pub mod ByEnding
 pub mod NoLines
 pub mod Turning

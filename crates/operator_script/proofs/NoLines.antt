@@ -1,7 +1,7 @@
 -- A script of no bytes.
 use Rattle.std.proofs.Common.{◌≡◌, ℕ, [], refl}
 use Rattle.std.specs.Prelude.{Ok}
-use Rattle.line_words.specs.Lines.{items_from, items_of_lines}
+use Rattle.operator_script.specs.Lines.{items_from, items_of_lines}
 use Rattle.operator_script.specs.Script.{script_of}
 
 -- it has no line

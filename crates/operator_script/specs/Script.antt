@@ -2,7 +2,7 @@
 use Rattle.std.specs.Prelude.{ℕ, Bool, List, [], ◌∷◌, codes, bytes_eq, if◌then◌else◌, Option, None, option_map, option_and_then, Result}
 use Rattle.line_words.specs.Words.{words_of, number, number_in}
 use Rattle.line_words.specs.Arguments.{alone, number_below, one_of, one_word, two_words}
-use Rattle.line_words.specs.Lines.{items_of_lines}
+use Rattle.operator_script.specs.Lines.{items_of_lines}
 use Rattle.operator_script.specs.declared.script.Due.{Due}
 use Rattle.operator_script.specs.declared.script.Due.TheVariants as due
 use Rattle.operator_script.specs.declared.script.Action.{Action}

@@ -10,8 +10,8 @@ use Rattle.operator_script.specs.declared.script.ScriptFault.{ScriptFault}
 use Rattle.operator_script.specs.declared.script.ScriptFault.TheVariants as fault
 use Rattle.operator_script.specs.Script.{script_of}
 use Rattle.line_words.specs.Words.{largest_number}
-use Rattle.line_words.specs.declared.lines.LineFault.{LineFault}
-use Rattle.line_words.specs.declared.lines.LineFault.TheVariants as lines
+use Rattle.operator_script.specs.declared.lines.LineFault.{LineFault}
+use Rattle.operator_script.specs.declared.lines.LineFault.TheVariants as lines
 
 -- the lines that have not acted yet
 abbrev pub lines_left : Script → List ScriptLine

@@ -5,10 +5,8 @@ ghost use Rattle.operator_script.specs.Script.{action_of, line_at_count, line_of
 ghost use Rattle.line_words.specs.Words.{words_of};
 ghost use Rattle.operator_script.specs.declared.script.ScriptFault.TheVariants.{Memory};
 
-use line_words::{
-    LineFault, LineGrammar, alone, cut_word, number, number_below, number_in, one_of, one_word,
-    read_lines, two_words,
-};
+use crate::lines::{LineFault, LineGrammar, read_lines};
+use line_words::{alone, cut_word, number, number_below, number_in, one_of, one_word, two_words};
 use std::alloc::{AllocError, Global};
 use std::vec::Vec;
 use thiserror::Error;

@@ -3,7 +3,7 @@ use Rattle.std.proofs.Common.{◌≡◌, ℕ, ◌+◌, ◌≤◌, Bool, true, if
 use Rattle.std.proofs.lemmas.List.{map-append}
 use Rattle.std.specs.Prelude.{Option, option_map}
 use Rattle.outside_io.specs.declared.host.Unit as unit
-use Rattle.outside_io.specs.World.{World, Readings, Seen, Rose, at, same_unit, kept_name, is_output, is_pack, sectors_after_binding, world_after_put, world_after_take}
+use Rattle.outside_io.specs.World.{World, Readings, Seen, Rose, at, same_unit, kept_name, is_output, is_pack, sectors_after_binding, limits_after_put, world_after_put, world_after_take}
 use Rattle.outside_io.specs.Whole.{Stops}
 use Rattle.outside_io.specs.Events.{Event, BindFile, WriteByte, WriteSector, TakeCard, TakeLine, after_event, after_events, cards_in, lines_in, text_events, IsFirstPart, SameOutside, DidAll, DidPart}
 use Rattle.outside_io.proofs.Worlds.{added_to-nil, added_to-append}
@@ -17,6 +17,7 @@ same_of w v is = record {
   names = ap (λ (x : World). x.names) is;
   written = ap (λ (x : World). x.written) is;
   sectors = ap (λ (x : World). x.sectors) is;
+  limits = ap (λ (x : World). x.limits) is;
 }
 
 pub same_on : (w v u : World) → SameOutside w v → SameOutside v u → SameOutside w u
@@ -26,10 +27,11 @@ same_on w v u first second = record {
   names = first.names ∙ second.names;
   written = first.written ∙ second.written;
   sectors = first.sectors ∙ second.sectors;
+  limits = first.limits ∙ second.limits;
 }
 
 pub same_sym : (w v : World) → SameOutside w v → SameOutside v w
-same_sym w v same = record { file = sym same.file; in_use = sym same.in_use; names = sym same.names; written = sym same.written; sectors = sym same.sectors }
+same_sym w v same = record { file = sym same.file; in_use = sym same.in_use; names = sym same.names; written = sym same.written; sectors = sym same.sectors; limits = sym same.limits }
 
 same_event : (d : Event) (w v : World) → SameOutside w v → SameOutside (after_event w d) (after_event v d)
 same_event (BindFile u name) w v same = record {
@@ -38,6 +40,7 @@ same_event (BindFile u name) w v same = record {
   names = ap (λ (f : unit.Unit → Option (List ℕ)). λ x. if same_unit u x then kept_name name else f x) same.names;
   written = ap (λ (f : unit.Unit → Option (List ℕ)). if is_output u then at u (option_map (λ _. [])) f else f) same.written;
   sectors = λ i. if is_pack u then sectors_after_binding (same.file i name) (same.sectors i) else same.sectors i;
+  limits = same.limits;
 }
 same_event (WriteByte u byte) w v same = record {
   file = same.file;
@@ -45,6 +48,7 @@ same_event (WriteByte u byte) w v same = record {
   names = same.names;
   written = ap (at u (option_map (λ text. text ++ (byte ∷ [])))) same.written;
   sectors = same.sectors;
+  limits = λ i. option_map (limits_after_put u (byte ∷ []) (same.written i)) (same.limits i);
 }
 same_event (WriteSector a bytes) w v same = record {
   file = same.file;
@@ -52,6 +56,7 @@ same_event (WriteSector a bytes) w v same = record {
   names = same.names;
   written = same.written;
   sectors = ap (λ (s : Option (ℕ → List ℕ)). (after_event (record w { sectors = s }) (WriteSector a bytes)).sectors) same.sectors;
+  limits = same.limits;
 }
 same_event TakeCard w v same = same
 same_event TakeLine w v same = same
@@ -88,6 +93,7 @@ did_taken u gone w v is = record {
   names = ap (λ (x : World). x.names) is;
   written = ap (λ (x : World). x.written) is;
   sectors = ap (λ (x : World). x.sectors) is;
+  limits = ap (λ (x : World). x.limits) is;
 }
 
 -- CARDS AND LINES OF KEYS

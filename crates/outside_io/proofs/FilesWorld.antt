@@ -1,5 +1,5 @@
 -- What the calls on files in memory do to the world.
-use Rattle.std.proofs.Common.{◌≡◌, ℕ, ◌≤◌, Bool, true, false, List, [], ◌++◌, length, take, drop, get_or, refl, sym, ◌∙◌, ap, subst, arith}
+use Rattle.std.proofs.Common.{◌≡◌, ℕ, ◌-◌, ◌≤◌, Bool, true, false, List, [], ◌++◌, length, take, drop, get_or, refl, sym, ◌∙◌, ap, subst, arith}
 use Rattle.std.proofs.Math.Path.{fun_ext}
 use Rattle.std.proofs.lemmas.List.{take-append-drop, length-take}
 use Rattle.std.specs.Prelude.{Option, Some, option_map, if◌then◌else◌, bytes_eq}
@@ -7,11 +7,13 @@ use Rattle.outside_io.specs.declared.host.Unit as unit
 use Rattle.outside_io.specs.declared.host.Unit.TheVariants.{Pack}
 use Rattle.outside_io.specs.declared.in_memory.files.NamedFile.{NamedFile}
 use Rattle.outside_io.specs.declared.in_memory.files.Files.{Files}
-use Rattle.outside_io.specs.World.{Asked, one_reading, asked_after, place, same_unit, is_input, is_output, is_pack, at, sectors_after_binding, empty_pack, world_after_binding, world_after_take, world_after_put, BeginsWith, with_file, no_files}
+use Rattle.outside_io.specs.World.{Limits, Asked, one_reading, asked_after, place, same_unit, is_input, is_output, is_pack, at, sectors_after_binding, empty_pack, world_after_binding, world_after_take, world_after_put, BeginsWith, with_file, no_files}
 use Rattle.outside_io.specs.Names.{name_of, HasNoName}
 use Rattle.outside_io.specs.Files.{bytes_at, bytes_named, file_bytes, rest_of, sectors_from, pack_of, world_of, asked_of, Gives, Opens, IsIdle, IsUnasked, AddsFile, SameFiles}
 use Rattle.outside_io.specs.declared.in_memory.texts.OutputTexts as texts
-use Rattle.outside_io.specs.Texts.{unit_text, Clears, Grows}
+use Rattle.outside_io.specs.declared.in_memory.mem.Calls.{Calls}
+use Rattle.outside_io.specs.CallCounts.{limits_of}
+use Rattle.outside_io.specs.Texts.{unit_text, spare_of, Clears, Grows}
 use Rattle.outside_io.proofs.Worlds.{Texts}
 use Rattle.outside_io.proofs.UntoldHosts.{same_world}
 
@@ -35,9 +37,9 @@ pub gives_bytes : (old new : Files) (u : unit.Unit) (buf : List ℕ) (n : ℕ) �
 gives_bytes old new u buf n gives = sym (ap (λ (k : ℕ). take n buf ++ drop k (rest_of old u)) (taken_length n buf gives.fits) ∙ ap (λ (t : List ℕ). t ++ drop n (rest_of old u)) gives.copied ∙ take-append-drop n (rest_of old u))
 
 -- they are gone from the world
-pub gives_world : (old new : Files) (u : unit.Unit) (buf : List ℕ) (n : ℕ) (written : Texts) (before after : Sectors) → after ≡ before → Gives old new u buf n
-    → world_of new written after ≡ world_after_take u (one_reading (take n buf)) (world_of old written before)
-gives_world old new u buf n written before after sectors gives = same_world (world_of new written after) (world_after_take u (one_reading (take n buf)) (world_of old written before))
+pub gives_world : (old new : Files) (u : unit.Unit) (buf : List ℕ) (n : ℕ) (written : Texts) (before after : Sectors) (limits now : Option Limits) → after ≡ before → now ≡ limits → Gives old new u buf n
+    → world_of new written after now ≡ world_after_take u (one_reading (take n buf)) (world_of old written before limits)
+gives_world old new u buf n written before after limits now sectors stays gives = same_world (world_of new written after now) (world_after_take u (one_reading (take n buf)) (world_of old written before limits))
     (ap (λ (f : List ℕ → List ℕ). λ (name : List ℕ). Some (f name)) gives.bytes)
     gives.flags
     gives.names
@@ -45,6 +47,7 @@ gives_world old new u buf n written before after sectors gives = same_world (wor
     refl
     sectors
     (fun_ext (λ v. ap (λ (a : Asked). Some a) (gives.asked v) ∙ asked_some (same_unit u v) (asked_after (one_reading (take n buf))) (asked_of old v)))
+    stays
 
 opens_some : (b input : Bool) (bytes t : List ℕ) → Some (if b then (if input then bytes else t) else t) ≡ (if input then (if b then Some bytes else Some t) else Some t)
 opens_some true true bytes t = refl
@@ -58,11 +61,11 @@ lefts u v true bytes texts = refl
 lefts u v false bytes texts = refl
 
 -- a file that is opened is bound in the world
-pub opens_world : (old new : Files) (u : unit.Unit) (name : List ℕ) (written after : Texts) (sectors now : Sectors) → Opens old new u name
+pub opens_world : (old new : Files) (u : unit.Unit) (name : List ℕ) (written after : Texts) (sectors now : Sectors) (limits limits_now : Option Limits) → limits_now ≡ limits → Opens old new u name
     → after ≡ (if is_output u then at u (option_map (λ t. [])) written else written)
     → now ≡ (if is_pack u then sectors_after_binding (Some (file_bytes old name)) sectors else sectors)
-    → world_of new after now ≡ world_after_binding u name (world_of old written sectors)
-opens_world old new u name written after sectors now opens texts pack = same_world (world_of new after now) (world_after_binding u name (world_of old written sectors))
+    → world_of new after now limits_now ≡ world_after_binding u name (world_of old written sectors limits)
+opens_world old new u name written after sectors now limits limits_now stays opens texts pack = same_world (world_of new after now limits_now) (world_after_binding u name (world_of old written sectors limits))
     (ap (λ (f : List ℕ → List ℕ). λ (other : List ℕ). Some (f other)) opens.bytes)
     (fun_ext opens.flags)
     (fun_ext opens.names)
@@ -70,15 +73,16 @@ opens_world old new u name written after sectors now opens texts pack = same_wor
     texts
     pack
     (ap (λ (asked : unit.Unit → Asked). λ v. Some (asked v)) opens.asked)
+    stays
 
 added_some : (b : Bool) (s t : List ℕ) → Some (if b then s else t) ≡ (if b then Some s else Some t)
 added_some true s t = refl
 added_some false s t = refl
 
 -- a file that is added is one of the world's
-pub adds_world : (old new : Files) (name bytes : List ℕ) (written : Texts) (before after : Sectors) → after ≡ before → AddsFile old new name bytes
-    → world_of new written after ≡ with_file name bytes (world_of old written before)
-adds_world old new name bytes written before after sectors adds = same_world (world_of new written after) (with_file name bytes (world_of old written before))
+pub adds_world : (old new : Files) (name bytes : List ℕ) (written : Texts) (before after : Sectors) (limits : Option Limits) → after ≡ before → AddsFile old new name bytes
+    → world_of new written after limits ≡ with_file name bytes (world_of old written before limits)
+adds_world old new name bytes written before after limits sectors adds = same_world (world_of new written after limits) (with_file name bytes (world_of old written before limits))
     (fun_ext (λ other. ap (λ (t : List ℕ). Some t) (adds.added other) ∙ added_some (bytes_eq name other) bytes (file_bytes old other)))
     adds.flags
     adds.names
@@ -86,14 +90,15 @@ adds_world old new name bytes written before after sectors adds = same_world (wo
     refl
     sectors
     (ap (λ (asked : unit.Unit → Asked). λ v. Some (asked v)) adds.asked)
+    refl
 
 -- files that changed nothing but room tell the same pack
 pub same_pack : (old new : Files) → SameFiles old new → pack_of new ≡ pack_of old
 same_pack old new same = λ i. sectors_from (get_or (same.bound i) (place Pack) false) (bytes_at (same.named i) (get_or (same.opened i) (place Pack) 0))
 
 -- and the same world
-pub same_files_world : (old new : Files) (written : Texts) (before after : Sectors) → after ≡ before → SameFiles old new → world_of new written after ≡ world_of old written before
-same_files_world old new written before after sectors same = λ i. record {
+pub same_files_world : (old new : Files) (written : Texts) (before after : Sectors) (limits : Option Limits) → after ≡ before → SameFiles old new → world_of new written after limits ≡ world_of old written before limits
+same_files_world old new written before after limits sectors same = λ i. record {
   in_use = λ u. get_or (same.bound i) (place u) false;
   names = name_of (same.names i);
   file = λ name. Some (bytes_named (same.named i) name);
@@ -101,6 +106,7 @@ same_files_world old new written before after sectors same = λ i. record {
   written = written;
   sectors = sectors i;
   asked = λ u. Some (record { last = get_or (same.last i) (place u) 0; ends = get_or (same.ends i) (place u) 0 });
+  limits = limits;
 }
 
 both_empty : (b : Bool) → (let e : List ℕ = [] in if b then e else e) ≡ []
@@ -116,8 +122,8 @@ pub idle_pack : (files : Files) → IsIdle files → pack_of files ≡ empty_pac
 idle_pack files idle = ap (λ (b : Bool). sectors_from b (bytes_at files.named.items (get_or files.opened (place Pack) 0))) (idle Pack)
 
 -- where no unit is in use and no file is named, the world is the first one
-pub new_world : (files : Files) (written : Texts) (sectors : Sectors) → files.named.items ≡ [] → IsIdle files → HasNoName files.names → IsUnasked files → world_of files written sectors ≡ record (no_files false) { written = written; sectors = sectors }
-new_world files written sectors named idle unnamed unasked = same_world _ _
+pub new_world : (files : Files) (written : Texts) (sectors : Sectors) (limits : Option Limits) → files.named.items ≡ [] → IsIdle files → HasNoName files.names → IsUnasked files → world_of files written sectors limits ≡ record (no_files false) { written = written; sectors = sectors; limits = limits }
+new_world files written sectors limits named idle unnamed unasked = same_world _ _
     (ap (λ (items : List NamedFile). λ (name : List ℕ). Some (bytes_named items name)) named)
     (fun_ext idle)
     (fun_ext unnamed)
@@ -125,6 +131,7 @@ new_world files written sectors named idle unnamed unasked = same_world _ _
     refl
     refl
     (fun_ext (λ u. ap (λ (a : Asked). Some a) (unasked u)))
+    refl
 
 cleared_some : (b : Bool) (t : List ℕ) → Some (if b then [] else t) ≡ (if b then Some [] else Some t)
 cleared_some true t = refl
@@ -144,8 +151,17 @@ grown_some : (b : Bool) (more t : List ℕ) → Some (if b then t ++ more else t
 grown_some true more t = refl
 grown_some false more t = refl
 
+spare_some : (b : Bool) (n m room : ℕ) → m ≡ n → (if b then room - n else room) ≡ (if b then room - m else room)
+spare_some b n m room is = ap (λ (k : ℕ). if b then room - k else room) (sym is)
+
+-- the same calls are to fail, and the same room is left
+pub same_limits : (old new : texts.OutputTexts) (before after : Calls) → ((v : unit.Unit) → spare_of new v ≡ spare_of old v) → after.failing ≡ before.failing → Some (limits_of new after) ≡ Some (limits_of old before)
+same_limits old new before after spare failing = λ i. Some (record { failing = (failing i).items; room = fun_ext spare i })
+
 -- bytes that are added to a text are added in the world
-pub grows_world : (files : Files) (old new : texts.OutputTexts) (u : unit.Unit) (piece : List ℕ) (n : ℕ) (sectors : Sectors) → Grows old new u piece n
-    → world_of files (λ v. Some (unit_text new v)) sectors ≡ world_after_put u (take n piece) (world_of files (λ v. Some (unit_text old v)) sectors)
-grows_world files old new u piece n sectors grows = ap (λ (written : Texts). world_of files written sectors)
-    (fun_ext (λ v. ap (λ (t : List ℕ). Some t) (grows.text v) ∙ grown_some (same_unit u v) (take n piece) (unit_text old v)))
+pub grows_world : (files : Files) (old new : texts.OutputTexts) (u : unit.Unit) (piece : List ℕ) (n : ℕ) (sectors : Sectors) (before after : Calls) → after.failing ≡ before.failing → Grows old new u piece n
+    → world_of files (λ v. Some (unit_text new v)) sectors (Some (limits_of new after)) ≡ world_after_put u (take n piece) (world_of files (λ v. Some (unit_text old v)) sectors (Some (limits_of old before)))
+grows_world files old new u piece n sectors before after failing grows =
+    let written : (λ v. Some (unit_text new v)) ≡ at u (option_map (λ text. text ++ take n piece)) (λ v. Some (unit_text old v)) = fun_ext (λ v. ap (λ (t : List ℕ). Some t) (grows.text v) ∙ grown_some (same_unit u v) (take n piece) (unit_text old v)) in
+    let room : spare_of new ≡ (λ v. if same_unit u v then spare_of old v - length (take n piece) else spare_of old v) = fun_ext (λ v. grows.spare v ∙ spare_some (same_unit u v) n (length (take n piece)) (spare_of old v) (taken_length n piece grows.fits)) in
+    λ i. world_of files (written i) sectors (Some (record { failing = (failing i).items; room = room i }))

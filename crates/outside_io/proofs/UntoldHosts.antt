@@ -32,8 +32,8 @@ pub flag_set : (bound : List Bool) (u v : unit.Unit) → place u < length bound
 flag_set bound u v fits = grind (arith, nat_tests, get_or-set_other, get_or-set_same)
 
 -- two worlds that agree in each part
-pub same_world : (v w : World) → v.file ≡ w.file → v.in_use ≡ w.in_use → v.names ≡ w.names → v.left ≡ w.left → v.written ≡ w.written → v.sectors ≡ w.sectors → v.asked ≡ w.asked → v ≡ w
-same_world v w file in_use names left written sectors asked = λ i. record { in_use = in_use i; names = names i; file = file i; left = left i; written = written i; sectors = sectors i; asked = asked i }
+pub same_world : (v w : World) → v.file ≡ w.file → v.in_use ≡ w.in_use → v.names ≡ w.names → v.left ≡ w.left → v.written ≡ w.written → v.sectors ≡ w.sectors → v.asked ≡ w.asked → v.limits ≡ w.limits → v ≡ w
+same_world v w file in_use names left written sectors asked limits = λ i. record { in_use = in_use i; names = names i; file = file i; left = left i; written = written i; sectors = sectors i; asked = asked i; limits = limits i }
 
 -- sectors that are not told stay untold
 pub untold_pack : (u : unit.Unit) (file : Option (List ℕ)) → (let none : Option (ℕ → List ℕ) = None in none ≡ (if is_pack u then sectors_after_binding file none else none))
@@ -46,7 +46,7 @@ untold-bound bound old new u name fits keeps =
     elim (is_input u) as (λ b. nothing ≡ (if b then at u (λ t. None) nothing else nothing)) [ true ↦ sym (at_nothing u (λ t. None) refl) | false ↦ refl ] in
     let writtens : nothing ≡ (if is_output u then at u (option_map (λ t. [])) nothing else nothing) =
     elim (is_output u) as (λ b. nothing ≡ (if b then at u (option_map (λ t. [])) nothing else nothing)) [ true ↦ sym (at_nothing u (option_map (λ t. [])) refl) | false ↦ refl ] in
-    same_world _ _ refl flags (fun_ext keeps) lefts writtens (untold_pack u None) refl
+    same_world _ _ refl flags (fun_ext keeps) lefts writtens (untold_pack u None) refl refl
 
 pub place_below : (u : unit.Unit) → place u < UNIT_COUNT
 place_below Source = omega arith

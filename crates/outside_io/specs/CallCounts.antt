@@ -1,8 +1,11 @@
 -- Which calls fail.
-use Rattle.std.specs.Prelude.{◌≡◌, ◌≤◌, Bool, ◌==◌}
+use Rattle.std.specs.Prelude.{◌≡◌, ◌≤◌, Bool, true, [], ◌==◌}
 use Rattle.std.specs.List.{list_any}
 use Rattle.outside_io.specs.declared.in_memory.mem.Calls.{Calls}
-use Rattle.outside_io.specs.World.{one_more}
+use Rattle.outside_io.specs.declared.host.Unit as unit
+use Rattle.outside_io.specs.declared.in_memory.texts.OutputTexts.{OutputTexts}
+use Rattle.outside_io.specs.World.{Limits, one_more, is_output}
+use Rattle.outside_io.specs.Texts.{spare_of}
 
 -- the next call is to fail
 abbrev pub next_fails : Calls → Bool
@@ -13,3 +16,16 @@ pub record CountsCall (old new : Calls) : Type 0 where
   pub made : new.made ≡ one_more old.made
   pub failing : new.failing ≡ old.failing
   pub later : old.faults ≤ new.faults
+
+-- the calls that are to fail, and the room that is left
+abbrev pub limits_of : OutputTexts → Calls → Limits
+limits_of texts calls = record { failing = calls.failing.items; room = spare_of texts }
+
+-- no call is to fail, and each output has room
+pub record FailsNowhere (l : Limits) : Type 0 where
+  pub failing : l.failing ≡ []
+  pub room : (u : unit.Unit) → is_output u ≡ true → 1 ≤ l.room u
+
+-- a fault was counted only at a listed call or at a full output
+abbrev pub FaultsHaveCauses : OutputTexts → Calls → Type 0
+FaultsHaveCauses texts calls = FailsNowhere (limits_of texts calls) → calls.faults ≡ 0

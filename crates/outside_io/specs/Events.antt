@@ -1,7 +1,7 @@
 -- What is done outside, one thing after another.
-use Rattle.std.specs.Prelude.{ℕ, suc, ◌≡◌, List, [], ◌∷◌, ◌++◌, map}
+use Rattle.std.specs.Prelude.{ℕ, suc, ◌+◌, ◌≡◌, List, [], ◌∷◌, ◌++◌, map, if◌then◌else◌}
 use Rattle.outside_io.specs.declared.host.Unit as unit
-use Rattle.outside_io.specs.World.{World, world_after_binding, world_after_put, with_sector_written}
+use Rattle.outside_io.specs.World.{World, same_unit, world_after_binding, world_after_put, with_sector_written}
 
 -- a file is bound to a unit, a byte is written on an output, or a sector on the pack; or a card is taken from a reader's hopper, or a line of
 -- Keys
@@ -37,6 +37,12 @@ lines_in [] = 0
 lines_in (TakeLine ∷ ds) = suc (lines_in ds)
 lines_in (d ∷ ds) = lines_in ds
 
+-- how many bytes are written on a unit
+abbrev pub bytes_written : unit.Unit → List Event → ℕ
+bytes_written u [] = 0
+bytes_written u (WriteByte v byte ∷ ds) = (if same_unit v u then 1 else 0) + bytes_written u ds
+bytes_written u (d ∷ ds) = bytes_written u ds
+
 -- a text is written, byte by byte
 abbrev pub text_events : unit.Unit → List ℕ → List Event
 text_events u text = map (WriteByte u) text
@@ -45,7 +51,7 @@ text_events u text = map (WriteByte u) text
 abbrev pub IsFirstPart : List Event → List Event → Type 0
 IsFirstPart ds all = (rest : List Event) × (ds ++ rest ≡ all)
 
--- the same files, and the same units in use, bound to the same names, with the same texts and the same sectors; what is left of the
+-- the same files, and the same units in use, bound to the same names, with the same texts, sectors and limits; what is left of the
 -- inputs may differ, and how they were asked
 pub record SameOutside (w v : World) : Type 0 where
   pub file : w.file ≡ v.file
@@ -53,6 +59,7 @@ pub record SameOutside (w v : World) : Type 0 where
   pub names : w.names ≡ v.names
   pub written : w.written ≡ v.written
   pub sectors : w.sectors ≡ v.sectors
+  pub limits : w.limits ≡ v.limits
 
 -- all of these were done between two worlds, and nothing else
 abbrev pub DidAll : List Event → World → World → Type 0

@@ -4,7 +4,7 @@ use Rattle.outside_io.specs.declared.host.Unit as unit
 use Rattle.outside_io.specs.declared.in_memory.files.NamedFile.{NamedFile}
 use Rattle.outside_io.specs.declared.in_memory.files.Files.{Files}
 use Rattle.outside_io.specs.declared.host.Unit.TheVariants.{Pack}
-use Rattle.outside_io.specs.World.{World, Asked, one_reading, asked_after, place, same_unit, is_input, is_pack, sectors_of, empty_pack}
+use Rattle.outside_io.specs.World.{World, Limits, Asked, one_reading, asked_after, place, same_unit, is_input, is_pack, sectors_of, empty_pack}
 use Rattle.outside_io.specs.Names.{name_of, KeepsName}
 
 -- the name that the unit is bound to, where one is kept
@@ -114,9 +114,9 @@ pub record AddsFile (old new : Files) (name bytes : List ℕ) : Type 0 where
   pub pack : pack_of new ≡ pack_of old
   pub asked : asked_of new ≡ asked_of old
 
--- the world with these files, these texts and these sectors
-abbrev pub world_of : Files → (unit.Unit → Option (List ℕ)) → Option (ℕ → List ℕ) → World
-world_of files written sectors = record {
+-- the world with these files, these texts, these sectors and these limits
+abbrev pub world_of : Files → (unit.Unit → Option (List ℕ)) → Option (ℕ → List ℕ) → Option Limits → World
+world_of files written sectors limits = record {
   in_use = flag_of files;
   names = name_of_unit files;
   file = λ name. Some (file_bytes files name);
@@ -124,6 +124,7 @@ world_of files written sectors = record {
   written = written;
   sectors = sectors;
   asked = λ u. Some (asked_of files u);
+  limits = limits;
 }
 
 -- nothing changed but room

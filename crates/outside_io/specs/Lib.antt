@@ -10,6 +10,7 @@ pub mod Pack
 pub mod Mem
 pub mod Quiet
 pub mod Scratch
+pub mod Old
 pub mod Real
 pub mod Lines
 pub mod Events

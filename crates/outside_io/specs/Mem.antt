@@ -1,9 +1,10 @@
 -- What a host in memory tells, and when it fails.
-use Rattle.std.specs.Prelude.{◌≡◌, ℕ, ◌≤◌, Bool, true, List, length, Option, Some, IfSome}
+use Rattle.std.specs.Prelude.{◌≡◌, ℕ, ◌≤◌, Bool, true, List, [], ◌∷◌, ◌++◌, length, Option, Some, IfSome, option_map}
 use Rattle.outside_io.specs.declared.host.Unit as unit
 use Rattle.outside_io.specs.declared.in_memory.mem.MemHost.{MemHost}
-use Rattle.outside_io.specs.World.{World, Seen, one_more, is_output, no_files}
-use Rattle.outside_io.specs.CallCounts.{next_fails}
+use Rattle.outside_io.specs.World.{World, Limits, Seen, one_more, is_output, no_files}
+use Rattle.outside_io.specs.CallCounts.{next_fails, limits_of}
+use Rattle.outside_io.specs.Rooms.{unit_room}
 use Rattle.outside_io.specs.Files.{world_of, pack_of}
 use Rattle.outside_io.specs.Pack.{sectors_over}
 use Rattle.outside_io.specs.Texts as texts
@@ -18,15 +19,19 @@ pack_of_host host = sectors_over host.sectors (pack_of host.files)
 
 -- a host in memory tells everything
 abbrev pub mem_world : MemHost → World
-mem_world host = world_of host.files (written_texts host) (Some (pack_of_host host))
+mem_world host = world_of host.files (written_texts host) (Some (pack_of_host host)) (Some (limits_of host.texts host.calls))
 
 -- the count of faults, and the world
 abbrev pub mem_seen : MemHost → Seen
 mem_seen host = record { faults = host.calls.faults; world = mem_world host }
 
--- what a new host tells: no file, nothing written, and no fault
-abbrev pub first_seen : Seen
-first_seen = record { faults = 0; world = no_files true }
+-- what a new host tells: no file, nothing written, no call that is to fail, the room of each output, and no fault
+abbrev pub first_seen : ℕ → Seen
+first_seen size = record { faults = 0; world = record (no_files true) { limits = Some (record { failing = []; room = unit_room size }) } }
+
+-- the call of this number is to fail too, and all else stays
+abbrev pub with_failing_call : ℕ → Seen → Seen
+with_failing_call call seen = record seen { world = record seen.world { limits = option_map {T = Limits} (λ l. record l { failing = l.failing ++ call ∷ [] }) seen.world.limits } }
 
 -- the numbers of the calls that are to fail
 abbrev pub failing_calls : MemHost → List ℕ
@@ -58,6 +63,10 @@ pub record KeepsCalls (old new : MemHost) : Type 0 where
   pub failing : failing_calls new ≡ failing_calls old
   pub calls : calls_made new ≡ calls_made old
   pub room : (u : unit.Unit) → room_of_unit new u ≡ room_of_unit old u
+
+-- the count of faults stays
+abbrev pub KeepsFaults : MemHost → MemHost → Type 0
+KeepsFaults old new = (mem_seen new).faults ≡ (mem_seen old).faults
 
 -- no more bytes go into the output
 abbrev pub is_unit_full : MemHost → unit.Unit → Bool

@@ -4,9 +4,9 @@ use Rattle.outside_io.specs.declared.in_memory.quiet.QuietHost.{QuietHost}
 use Rattle.outside_io.specs.World.{World, Seen}
 use Rattle.outside_io.specs.Files.{world_of}
 
--- a quiet host tells its inputs, and neither texts nor sectors
+-- a quiet host tells its inputs, and neither texts nor sectors nor limits
 abbrev pub quiet_world : QuietHost → World
-quiet_world host = world_of host.files (λ u. None) None
+quiet_world host = world_of host.files (λ u. None) None None
 
 -- no fault, and the world
 abbrev pub quiet_seen : QuietHost → Seen

@@ -3,10 +3,9 @@ use Rattle.std.specs.Prelude.{◌≡◌, ℕ, Bool, false, List, None, slice_ind
 use Rattle.outside_io.specs.declared.host.Unit as unit
 use Rattle.outside_io.specs.declared.names.BoundNames.{BoundNames}
 use Rattle.outside_io.specs.declared.real.RealHost.{RealHost}
-use Rattle.outside_io.specs.declared.whole.Sent.{Sent}
-use Rattle.outside_io.specs.declared.whole.Sent.TheVariants as sent
-use Rattle.outside_io.specs.World.{World, Seen, Fails, place}
+use Rattle.outside_io.specs.World.{World, Seen, place}
 use Rattle.outside_io.specs.Names.{name_of}
+use Rattle.outside_io.specs.Old.{HasNoOldBytes}
 use Rattle.outside_io.specs.Scratch.{scratch_room}
 
 -- a world that tells which units are in use and under which names, and nothing else
@@ -19,6 +18,7 @@ untold bound names = record {
   written = λ u. None;
   sectors = None;
   asked = λ u. None;
+  limits = None;
 }
 
 -- the count of faults, and the world, of a host over any files
@@ -29,15 +29,15 @@ real_seen host = record { faults = host.faults; world = untold host.bound host.n
 abbrev pub pack_room : {R F D : Type 0} → RealHost R F D → ℕ
 pack_room host = scratch_room host.scratch
 
--- no byte of a file or a unit is told, nor how a unit was asked
+-- no byte of a file or a unit is told, nor how a unit was asked, nor when a call fails
 pub record TellsNothing (w : World) : Type 0 where
   pub file : (name : List ℕ) → w.file name ≡ None
   pub left : (u : unit.Unit) → w.left u ≡ None
   pub written : (u : unit.Unit) → w.written u ≡ None
   pub sectors : w.sectors ≡ None
   pub asked : (u : unit.Unit) → w.asked u ≡ None
+  pub limits : w.limits ≡ None
 
--- what the end of a job does: nothing that is told changes but the count, which rises where it failed
-abbrev pub FinishesFiles : Seen → Seen → Sent → Type 0
-FinishesFiles old new sent.Done = new ≡ old
-FinishesFiles old new sent.Failed = Fails old new
+-- no output's file has bytes any more that it had before it was bound
+abbrev pub IsAllEmptied : {R F D : Type 0} → RealHost R F D → Type 0
+IsAllEmptied host = HasNoOldBytes host.files

@@ -102,6 +102,11 @@ both_readings a b = record { bytes = a.bytes ++ b.bytes; last = option_or b.last
 abbrev pub asked_after : Readings → Asked → Asked
 asked_after r a = record { last = unwrap_or r.last a.last; ends = a.ends + min r.ends (most_faults - a.ends) }
 
+-- the limits of a host: the numbers of the calls that are to fail, and how many more bytes each output takes
+pub record Limits : Type 0 where
+  pub failing : List ℕ
+  pub room : unit.Unit → ℕ
+
 -- what a host tells of its files and units, None where it tells nothing
 pub record World : Type 0 where
   pub in_use : unit.Unit → Bool
@@ -114,6 +119,8 @@ pub record World : Type 0 where
   pub sectors : Option (ℕ → List ℕ)
   -- how each input was asked
   pub asked : unit.Unit → Option Asked
+  -- when its calls fail
+  pub limits : Option Limits
 
 -- the count of faults, and what is told
 pub record Seen : Type 0 where
@@ -173,7 +180,7 @@ abbrev pub sectors_after_binding : Option (List ℕ) → Option (ℕ → List �
 sectors_after_binding file sectors = option_and_then (λ old. option_map sectors_of file) sectors
 
 -- a file is bound: its name is kept, an input's bytes are the file's, an output has none, and a pack's sectors are those of
--- the file
+-- the file; an output's room does not come back
 abbrev pub world_after_binding : unit.Unit → List ℕ → World → World
 world_after_binding u name w = record {
   in_use = λ v. if same_unit u v then true else w.in_use v;
@@ -183,6 +190,7 @@ world_after_binding u name w = record {
   written = if is_output u then at u (option_map (λ _. [])) w.written else w.written;
   sectors = if is_pack u then sectors_after_binding (w.file name) w.sectors else w.sectors;
   asked = w.asked;
+  limits = w.limits;
 }
 
 -- the bytes that these readings gave are gone from the unit, and it was asked so
@@ -192,9 +200,21 @@ world_after_take u r w = record w {
   asked = at u (option_map (asked_after r)) w.asked;
 }
 
+-- the room that bytes leave of an output's room; the room stays if the host does not reveal the output's text
+abbrev pub room_after : List ℕ → Option (List ℕ) → ℕ → ℕ
+room_after bytes None room = room
+room_after bytes (Some text) room = room - length bytes
+
+-- the bytes take room of the unit
+abbrev pub limits_after_put : unit.Unit → List ℕ → (unit.Unit → Option (List ℕ)) → Limits → Limits
+limits_after_put u bytes written l = record l { room = λ v. if same_unit u v then room_after bytes (written v) (l.room v) else l.room v }
+
 -- these bytes are added to the unit
 abbrev pub world_after_put : unit.Unit → List ℕ → World → World
-world_after_put u bytes w = record w { written = at u (option_map (λ text. text ++ bytes)) w.written }
+world_after_put u bytes w = record w {
+  written = at u (option_map (λ text. text ++ bytes)) w.written;
+  limits = option_map (limits_after_put u bytes w.written) w.limits;
+}
 
 -- the unit's bytes begin with these
 abbrev pub BeginsWith : List ℕ → Option (List ℕ) → Type 0
@@ -297,7 +317,7 @@ pub record IsFresh (w : World) : Type 0 where
   pub free : IsFree w
   pub empty : HasNoText w
 
--- the world without a file; its texts and its pack are empty where they are told, and no input was asked
+-- the world without a file and without limits; its texts and its pack are empty where they are told, and no input was asked
 abbrev pub no_files : Bool → World
 no_files tells = record {
   in_use = λ u. false;
@@ -307,6 +327,7 @@ no_files tells = record {
   written = λ u. if tells then Some [] else None;
   sectors = if tells then Some empty_pack else None;
   asked = λ u. Some (record { last = 0; ends = 0 });
+  limits = None;
 }
 
 -- the answers that are a failure

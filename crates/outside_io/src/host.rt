@@ -191,8 +191,8 @@ pub enum Drive {
 ///
 /// A host has a count of its faults, which never falls and stands still at 2^64 - 1. It may tell the bytes of its files, what each
 /// input has left, what each output has been given, what the pack has of its sectors, and how each input was asked: how many bytes the last
-/// reading that was answered gave, and how many readings found no more, which stands still at 2^64 - 1. Each of these may also be untold, and
-/// stays so.
+/// reading that was answered gave, and how many readings found no more, which stands still at 2^64 - 1. It may reveal too which of its calls are
+/// to fail, and how many more bytes each output takes. Each of these may also be untold, and stays so.
 /// Which units are in use is always told, and so is the name that each was bound to, up to 255 bytes.
 ///
 /// Each call changes only what its answer says, and all else stays but the count, which may rise. Each `Failed` comes only where the

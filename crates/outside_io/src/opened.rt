@@ -1,5 +1,6 @@
 // The files that units are bound to: how each is opened, which file it is, and whether its old bytes are still to go.
-ghost use Rattle.std.specs.Prelude.{◌≤◌, length, IfOk};
+ghost use Rattle.std.specs.Prelude.{◌≡◌, ◌≤◌, length, IfOk, OnOk};
+ghost use Rattle.outside_io.specs.declared.host.Unit.TheVariants.{Report};
 
 use crate::host::UNIT_COUNT;
 use crate::trouble::{Cause, Doing, Trouble};
@@ -89,6 +90,8 @@ pub(crate) struct OpenFiles<F> {
 }
 
 impl<F: Read + Write + OpenFile + Lockable + Drop> OpenFiles<F> {
+    ghost use Rattle.outside_io.specs.Old.{HasNoOldBytes, LosesOldBytes};
+
     // No unit is bound.
     pub(crate) fn new() -> Self {
         OpenFiles {
@@ -167,7 +170,8 @@ impl<F: Read + Write + OpenFile + Lockable + Drop> OpenFiles<F> {
 
     // How many bytes were written, all where nothing is bound.
     pub(crate) fn write(&mut self, unit: Unit, piece: &[u8]) -> io::Result<usize>
-        ensures { IfOk result (λ n. n ≤ length piece.now) }
+        ensures fits { IfOk result (λ n. n ≤ length piece.now) }
+        ensures old { self.new.is_old ≡ self.old.is_old }
     {
         let place = unit.place();
         match &mut self.files[place] {
@@ -176,27 +180,41 @@ impl<F: Read + Write + OpenFile + Lockable + Drop> OpenFiles<F> {
         }
     }
 
-    // Takes the old bytes away, where they are still there.
-    pub(crate) fn empty(&mut self, unit: Unit) -> io::Result<()> {
+    // Takes the old bytes away that have to go before a byte is given to the unit: those of its own file, and before Report those of all
+    // outputs.
+    pub(crate) fn make_way(&mut self, unit: Unit) -> Result<(), Trouble>
+        ensures { OnOk result (unit ≡ Report → HasNoOldBytes self.new) }
+    {
+        match unit {
+            Unit::Report => self.empty_all(),
+            _ => self.empty(unit),
+        }
+    }
+
+    // Takes the old bytes away, if they are still there.
+    fn empty(&mut self, unit: Unit) -> Result<(), Trouble>
+        ensures { OnOk result (LosesOldBytes self.old self.new unit) }
+    {
         let place = unit.place();
         if self.is_old[place] {
             if let Some(file) = &self.files[place] {
-                file.set_len(0)?;
+                if let Err(error) = file.set_len(0) {
+                    return Err(Trouble::of_system(unit, Doing::Empty, error));
+                }
             }
             self.is_old[place] = false;
         }
         Ok(())
     }
 
-    // Takes the old bytes away from all outputs, and tells where that failed last.
-    pub(crate) fn empty_all(&mut self) -> Option<Trouble> {
-        let mut trouble = None;
+    // Takes the old bytes away from all outputs, up to the first at which that fails.
+    fn empty_all(&mut self) -> Result<(), Trouble>
+        ensures { OnOk result (HasNoOldBytes self.new) }
+    {
         for unit in Unit::ALL {
-            if let Err(error) = self.empty(unit) {
-                trouble = Some(Trouble::of_system(unit, Doing::Empty, error));
-            }
+            self.empty(unit)?;
         }
-        trouble
+        Ok(())
     }
 
     // The file of the pack, none where no pack is bound.

@@ -1,10 +1,11 @@
 // The host over real files and the standard output: it tells nothing of the bytes.
 // Source: this project's own.
 ghost use Rattle.std.specs.Prelude.{◌≡◌, ◌≤◌, ◌<◌, length, false, true, IfOk, IfSome};
-ghost use Rattle.outside_io.specs.World.{IsFree, IsUnnamed, Fails, Binds, Takes, Puts, ReadsSector, WritesSector, is_input, is_output};
-ghost use Rattle.outside_io.specs.Real.{real_seen, pack_room, TellsNothing, FinishesFiles};
+ghost use Rattle.outside_io.specs.World.{IsFree, IsUnnamed, Fails, Binds, Takes, Puts, ReadsSector, WritesSector, is_input, is_output, put_failed};
+ghost use Rattle.outside_io.specs.Real.{real_seen, pack_room, TellsNothing, IsAllEmptied};
+ghost use Rattle.outside_io.specs.Old.{HasNoOldBytes};
 ghost use Rattle.outside_io.specs.declared.host.TheConstants.{ALL_SECTORS};
-ghost use Rattle.outside_io.specs.declared.host.Unit.TheVariants.{Pack};
+ghost use Rattle.outside_io.specs.declared.host.Unit.TheVariants.{Pack, Report};
 ghost use Rattle.outside_io.specs.declared.host.Drive.TheVariants.{Done};
 
 use crate::host::{SECTOR_LENGTH, UNIT_COUNT, one_more};
@@ -12,7 +13,7 @@ use crate::names::BoundNames;
 use crate::opened::OpenFiles;
 use crate::scratch::{PackRoom, ScratchPack};
 use crate::trouble::{Cause, Doing, Trouble};
-use crate::{Bound, Drive, Host, Lockable, Put, Sent, Take, Unit, again, pack_file};
+use crate::{Bound, Drive, Host, Lockable, Put, Take, Unit, again, pack_file};
 use std::io;
 use std::os::unix::fs::FileExt;
 use std::rt::{Clock, Files};
@@ -27,7 +28,8 @@ fn write_some<R: Files + Print + Clock>(
 ) -> io::Result<usize>
 where
     R::File: Lockable,
-    ensures { IfOk result (λ n. n ≤ length piece.now) }
+    ensures fits { IfOk result (λ n. n ≤ length piece.now) }
+    ensures old { files.new.is_old ≡ files.old.is_old }
 {
     if on_screen {
         again::write_screen(rt, piece)
@@ -36,7 +38,7 @@ where
     }
 }
 
-// The same for bytes of which at least one is taken, once what was in the file before is gone.
+// The same for bytes of which at least one is taken, after old bytes made way.
 fn write_out<R: Files + Print + Clock>(
     rt: &R,
     files: &mut OpenFiles<R::File>,
@@ -48,10 +50,9 @@ where
     R::File: Lockable,
     ensures some { IfOk result (λ n. 1 ≤ n) }
     ensures fits { IfOk result (λ n. n ≤ length piece.now) }
+    ensures emptied { IfOk result (λ _. unit ≡ Report → HasNoOldBytes files.new) }
 {
-    if let Err(error) = files.empty(unit) {
-        return Err(Trouble::of_system(unit, Doing::Empty, error));
-    }
+    files.make_way(unit)?;
     let cause = match write_some(rt, files, on_screen, unit, piece) {
         Ok(0) => Cause::NothingTaken,
         Ok(n) => return Ok(n),
@@ -71,7 +72,9 @@ where
 /// counts as a fault, and `trouble` tells the last one.
 ///
 /// A file that an output or the pack is bound to is made where it is not there. An old file of an output keeps its bytes until the first
-/// byte is given to it, or until `finish`; then it is emptied. So a job that fails before that leaves it as it was.
+/// byte is given to it or to Report; then it is emptied. So a job that fails before its report leaves the old files of outputs without a
+/// byte as they were, and after the first byte of the report nothing is left to be emptied. If a file can't be emptied the `put` fails,
+/// and gives no byte.
 ///
 /// A file that is bound twice is refused unless both units are inputs, whichever comes first: by the same name, by another name of the
 /// file or by a symbolic link. So is the file that the standard output goes to, for any unit. No such file loses a byte. A file that was
@@ -135,26 +138,9 @@ where
         }
     }
 
-    /// The last failure, by a call or by `finish`; None where none failed.
+    /// The last failure of a call; None if none failed.
     pub fn trouble(&self) -> Option<&Trouble> {
         self.trouble.as_ref()
-    }
-
-    /// Ends a job that met no fault: each output's regular file that was given no byte is emptied.
-    ///
-    /// `Done`: nothing that the host tells changed. `Failed`: a file could not be emptied, the count of faults rose, and nothing else
-    /// changed. The others are emptied all the same.
-    pub fn finish(&mut self) -> Sent
-        ensures finishes { FinishesFiles (real_seen self.old) (real_seen self.new) result }
-        ensures room { pack_room self.new ≡ pack_room self.old }
-    {
-        match self.files.empty_all() {
-            None => Sent::Done,
-            Some(trouble) => {
-                self.fail(trouble);
-                Sent::Failed
-            }
-        }
     }
 
     // Counts a fault, and keeps what it was.
@@ -172,7 +158,9 @@ where
     }
 
     // Whether the unit's bytes go nowhere.
-    fn is_dropped(&self, unit: Unit) -> bool {
+    fn is_dropped(&self, unit: Unit) -> bool
+        ensures { unit ≡ Report → result ≡ false }
+    {
         !matches!(unit, Unit::Typed | Unit::Report) && !self.bound[unit.place()]
     }
 }
@@ -225,6 +213,7 @@ where
         requires output { is_output unit ≡ true }
         requires some { 0 < length piece.now }
         ensures answer { Puts (real_seen self.old) (real_seen self.new) unit piece.now result }
+        ensures emptied { unit ≡ Report → put_failed result ≡ false → IsAllEmptied self.new }
         ensures room { pack_room self.new ≡ pack_room self.old }
     {
         if self.is_dropped(unit) {

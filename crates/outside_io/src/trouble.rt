@@ -11,7 +11,7 @@ use std::io::Error;
 pub enum Doing {
     /// It opened the file that a unit was to be bound to.
     Open,
-    /// It emptied an output's file, which had bytes of before.
+    /// It emptied an output's file, which had old bytes.
     Empty,
     /// It read from an input.
     Read,
@@ -49,7 +49,7 @@ impl From<Error> for Cause {
 /// A failure of the host over files: at which unit, in doing what, and why.
 #[derive(Debug, Drop)]
 pub struct Trouble {
-    /// The unit of the call, or at the end of a job that of the output.
+    /// The unit of the call; if an output's file could not be emptied before the report, that output.
     pub unit: Unit,
     /// What was being done.
     pub doing: Doing,

@@ -1,1 +1,2 @@
+mod LongerBuffer
 mod StillFree

@@ -1,6 +1,6 @@
 // Jobs that are done over real files, in the folder where the test runs.
 use ibm1620_cli::{Status, ibm1620};
-use outside_io::{Cause, Doing, RealHost, Sent, Trouble, Unit};
+use outside_io::{Cause, Doing, RealHost, Trouble, Unit};
 use std::alloc::{AllocError, Global};
 use std::fs;
 use std::io::ErrorKind;
@@ -42,11 +42,10 @@ pub(crate) fn answered(rt: &HostRuntime, line: &str) -> Result<Status, AllocErro
     Ok(status)
 }
 
-// What they answer where the host has no trouble, also at the end of the job, which empties the outputs that were given no byte.
-pub(crate) fn finished(rt: &HostRuntime, line: &str) -> Result<Option<Status>, AllocError> {
-    let (status, mut host) = done(rt, line)?;
-    let sent = host.finish();
-    if sent == Sent::Done && host.trouble().is_none() {
+// What they answer if the host has no trouble.
+pub(crate) fn untroubled(rt: &HostRuntime, line: &str) -> Result<Option<Status>, AllocError> {
+    let (status, host) = done(rt, line)?;
+    if host.trouble().is_none() {
         Ok(Some(status))
     } else {
         Ok(None)

@@ -1,5 +1,5 @@
 // Each unit of the program over real files, and each way in which files fail, in the folder where the test runs.
-use crate::jobs::{answered, failed, finished, holds};
+use crate::jobs::{answered, failed, holds, untroubled};
 use addr_indirect::Stop;
 use ibm1620_cli::Status;
 use outside_io::{Doing, Unit};
@@ -177,7 +177,7 @@ fn each_option_by_itself(rt: HostRuntime) -> Result<(), Fail> {
         let line = row.line;
         fs::write(&rt, "deck", row.deck)?;
         fs::write(&rt, row.name, row.before)?;
-        assert!(rt; finished(&rt, line)? == Some(row.status), "{line}");
+        assert!(rt; untroubled(&rt, line)? == Some(row.status), "{line}");
         assert!(rt; holds(&rt, "deck", row.deck)?, "{line}");
         assert!(rt; holds(&rt, row.name, row.after)?, "{line}");
     }
@@ -208,7 +208,7 @@ fn all_options_together(rt: HostRuntime) -> Result<(), Fail> {
     for (line, status, image, report) in WHOLE {
         write_files(&rt)?;
         fs::write(&rt, "pack", [b'7'; 700].as_slice())?;
-        assert!(rt; finished(&rt, line)? == Some(status));
+        assert!(rt; untroubled(&rt, line)? == Some(status));
         for (name, bytes) in INPUTS {
             assert!(rt; holds(&rt, name, bytes)?, "{name}");
         }

@@ -8,6 +8,7 @@ use card_unit::Hopper;
 use console_debug::{Commands, SessionEnd, ending_line, session};
 use core_texts::damage;
 use cpu_step::{Machine, Mode};
+use digit_core::Core;
 use operator_script::{Ending, Script};
 use outside_io::{MemHost, Unit};
 use rewind_log::Rewind;
@@ -28,20 +29,25 @@ const SOURCE: &[u8] = b"     *TWO DIGITS AND TWO HALTS
            DENDSTART
 ";
 
+// Puts the program's digits into core.
+fn place(core: &mut Core<1>, assembled: &Assembled) {
+    for piece in assembled.image.pieces.as_slice() {
+        let mut address = piece.from;
+        for digit in piece.digits.as_slice() {
+            if address < POSITIONS && digit.value <= 9 {
+                core.put(address, *digit);
+            }
+            address = address.saturating_add(1);
+        }
+    }
+}
+
 // A machine that runs from the program's start, with a cell of even parity at 00599.
 fn loaded(alloc: Global, assembled: &Assembled) -> Result<Machine<1>, Fail>
     ensures { IfOk result (λ machine. is_faulted machine.mode ≡ false) }
 {
     let mut machine = Machine::power_on(alloc, Hopper::of_units())?;
-    for piece in assembled.image.pieces.as_slice() {
-        let mut address = piece.from;
-        for digit in piece.digits.as_slice() {
-            if address < POSITIONS && digit.value <= 9 {
-                machine.core.put(address, *digit);
-            }
-            address = address.saturating_add(1);
-        }
-    }
+    place(&mut machine.core, assembled);
     damage(&mut machine.core, 599)?;
     machine.regs.ir = assembled.start;
     machine.mode = Mode::Running;

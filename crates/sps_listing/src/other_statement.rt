@@ -7,7 +7,7 @@ use crate::shown::line_at;
 use line_words::trimmed;
 use sps_expr::{Symbols, value};
 use sps_ops::Rule;
-use sps_pass_one::{Walk, is_label, locate, part_at};
+use sps_pass_one::{LookedUp, Walk, is_label, locate, part_at};
 use sps_scan::{Shape, scan};
 use std::alloc::{AllocError, Global};
 
@@ -21,7 +21,7 @@ fn head_at(source: &[u8], statement: u32) -> Option<Option<u8>>
             return Some(walk.head());
         }
         let s = scan(line.text);
-        walk.pass(&s);
+        walk.pass(&LookedUp::of(&s));
     }
     None
 }
@@ -126,7 +126,7 @@ fn lost_step(
         if suffices(lost, head, part, &symbols) {
             return Ok(Some((line.number, line_rule(s.shape))));
         }
-        walk.pass(&s);
+        walk.pass(&LookedUp::of(&s));
     }
     Ok(None)
 }

@@ -6,7 +6,7 @@ use Rattle.std.proofs.lemmas.Slice.Eq.{bytes_eq-Decides}
 use Rattle.std.proofs.lemmas.List.Elements.{Contains-append_left, Contains-append_right}
 use Rattle.instruction_table.specs.declared.InstructionRow.{InstructionRow}
 use Rattle.sps_ops.specs.declared.operation.Operation.{Operation}
-use Rattle.sps_ops.specs.declared.table.DeclarativeRow.{DeclarativeRow}
+use Rattle.sps_ops.specs.declared.operation.Declarative.{Declarative}
 use Rattle.line_words.specs.Rows.{NameRow, row_from_table, value_by_name, with_values}
 use Rattle.sps_ops.specs.Operations.{operations, opcodes, by_digits, mnemonics, unique_mnemonics, declaratives, plain_operation, whole, declared}
 
@@ -88,7 +88,7 @@ by_unique name u c =
     (made whole unique_mnemonics (record { name = name; value = u }) c)))
 
 -- of a declarative
-pub by_declarative : (name : List ℕ) (d : DeclarativeRow) → Contains declaratives (record { name = name; value = d }) → value_by_name operations name ≡ Some (declared d)
+pub by_declarative : (name : List ℕ) (d : Declarative) → Contains declaratives (record { name = name; value = d }) → value_by_name operations name ≡ Some (declared d)
 by_declarative name d c =
     let r : NameRow Operation = record { name = name; value = declared d } in
     operation_found r (Contains-append_right by_opcode (by_whole ++ by_declared) r

@@ -8,6 +8,6 @@ mod operation;
 mod rule;
 mod table;
 
-pub use operation::{Declarative, Operation, most_parts};
+pub use operation::{Declarative, Operation};
 pub use rule::{Rule, Sentence};
-pub use table::lookup;
+pub use table::{lookup, operation_law};

@@ -1,12 +1,8 @@
 // What an operation is.
-ghost use Rattle.std.specs.Prelude.{◌≡◌, ◌≤◌};
-ghost use Rattle.sps_ops.specs.Parts.{declarative_most_parts, most_parts};
-
-use crate::table::DECLARATIVES;
 
 /// What a statement's operation says.
 ///
-/// Source: SPS manual, operation codes and declarative operations.
+/// Source: SPS manual, operation codes and declarative operations; which instructions get a flag on Q7 is this project's own.
 #[derive(Clone, Copy, Debug, PartialEq, Eq)]
 pub enum Operation {
     /// An instruction of the machine.
@@ -55,31 +51,4 @@ pub enum Declarative {
     Dend,
     /// HEAD, the head of the symbols that follow.
     Head,
-}
-
-impl Declarative {
-    /// The greatest number of parts that its operands have.
-    ///
-    /// Source: SPS manual, declarative operations; the numbers are this project's own.
-    pub fn most_parts(self) -> usize
-        ensures is { result ≡ declarative_most_parts self }
-        ensures some { 1 ≤ result }
-        ensures ten { result ≤ 10 }
-    {
-        usize::from(DECLARATIVES[self as usize].1.1)
-    }
-}
-
-/// The greatest number of parts that the operands of a statement have: 3 for an instruction, and where there is no such operation.
-///
-/// Source: this project's own.
-pub fn most_parts(operation: Option<Operation>) -> usize
-    ensures is { result ≡ most_parts operation }
-    ensures some { 1 ≤ result }
-    ensures ten { result ≤ 10 }
-{
-    match operation {
-        Some(Operation::Declare(d)) => d.most_parts(),
-        _ => 3,
-    }
 }

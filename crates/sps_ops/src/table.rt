@@ -2,7 +2,7 @@
 ghost use Rattle.std.specs.Prelude.{◌≡◌, ◌<◌, map, length, IfSome, Some};
 ghost use Rattle.line_words.specs.Rows.{row_from_table, value_by_name, EachRowStandsFor, HasRow};
 ghost use Rattle.line_words.specs.Blanks.{trimmed};
-ghost use Rattle.sps_ops.specs.Operations.{lookup, operations, plain_operation, whole, opcodes, by_digits, two_digit_text, mnemonics, unique_mnemonics, declaratives, declared};
+ghost use Rattle.sps_ops.specs.Operations.{lookup, operations, plain_operation, whole, opcodes, by_digits, two_digit_text, mnemonics, unique_mnemonics, declaratives, unique_in_code, declared_in_code, declared};
 
 use crate::{Declarative, Operation};
 use instruction_table::{INSTRUCTIONS, InstructionRow, OperandUse};
@@ -63,27 +63,31 @@ static UNIQUE_MNEMONICS: [(&str, (u8, u32)); 46] = [
     ("WDN", (38, 702)),
 ];
 
-// A row of the table of declaratives: the declarative, and how many parts its operands have at most.
-#[derive(Clone, Copy)]
-pub(crate) struct DeclarativeRow(pub(crate) Declarative, pub(crate) u8);
-
-// The declaratives: the place of a row is that of its variant of `Declarative`.
-pub(crate) static DECLARATIVES: [(&str, DeclarativeRow); 14] = [
-    ("DS", DeclarativeRow(Declarative::Ds, 2)),
-    ("DSS", DeclarativeRow(Declarative::Dss, 2)),
-    ("DAS", DeclarativeRow(Declarative::Das, 2)),
-    ("DC", DeclarativeRow(Declarative::Dc, 3)),
-    ("DSC", DeclarativeRow(Declarative::Dsc, 3)),
-    ("DAC", DeclarativeRow(Declarative::Dac, 3)),
-    ("DSA", DeclarativeRow(Declarative::Dsa, 10)),
-    ("DSB", DeclarativeRow(Declarative::Dsb, 3)),
-    ("DNB", DeclarativeRow(Declarative::Dnb, 2)),
-    ("DGM", DeclarativeRow(Declarative::Dgm, 1)),
-    ("DDA", DeclarativeRow(Declarative::Dda, 4)),
-    ("DORG", DeclarativeRow(Declarative::Dorg, 1)),
-    ("DEND", DeclarativeRow(Declarative::Dend, 1)),
-    ("HEAD", DeclarativeRow(Declarative::Head, 3)),
+// The declaratives.
+static DECLARATIVES: [(&str, Declarative); 14] = [
+    ("DS", Declarative::Ds),
+    ("DSS", Declarative::Dss),
+    ("DAS", Declarative::Das),
+    ("DC", Declarative::Dc),
+    ("DSC", Declarative::Dsc),
+    ("DAC", Declarative::Dac),
+    ("DSA", Declarative::Dsa),
+    ("DSB", Declarative::Dsb),
+    ("DNB", Declarative::Dnb),
+    ("DGM", Declarative::Dgm),
+    ("DDA", Declarative::Dda),
+    ("DORG", Declarative::Dorg),
+    ("DEND", Declarative::Dend),
+    ("HEAD", Declarative::Head),
 ];
+
+/// The law of the tables: the unique mnemonics and the declaratives are those of the definitions.
+///
+/// Source: SPS manual, operation codes and declarative operations; which operations there are is this project's own.
+pub fn operation_law()
+    ensures unique { unique_in_code ≡ unique_mnemonics }
+    ensures declared { declared_in_code ≡ declaratives }
+{}
 
 /// The operation of a statement's columns 12 to 15, or `None` where there is no such operation.
 ///
@@ -246,8 +250,8 @@ fn unique_mnemonic(name: &[u8]) -> Option<(u8, u32)>
     find(&UNIQUE_MNEMONICS, name)
 }
 
-// The row of a declarative's mnemonic.
-fn declarative(name: &[u8]) -> Option<DeclarativeRow>
+// The declarative of a mnemonic.
+fn declarative(name: &[u8]) -> Option<Declarative>
     ensures { result ≡ value_by_name declaratives name.now }
 {
     find(&DECLARATIVES, name)
@@ -297,9 +301,9 @@ fn whole(named: (u8, u32)) -> Operation
     }
 }
 
-// A declarative by its row.
-fn declared(row: DeclarativeRow) -> Operation
-    ensures { result ≡ declared row }
+// A declarative as an operation.
+fn declared(declarative: Declarative) -> Operation
+    ensures { result ≡ declared declarative }
 {
-    Operation::Declare(row.0)
+    Operation::Declare(declarative)
 }

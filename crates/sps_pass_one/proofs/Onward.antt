@@ -1,5 +1,5 @@
 -- One statement after another: their places and their symbols.
-use Rattle.std.proofs.Common.{◌≡◌, ℕ, ◌+◌, ℤ, pos, Bool, Option, List, [], ◌∷◌, ◌++◌, map, refl, sym, ◌∙◌, append_assoc}
+use Rattle.std.proofs.Common.{◌≡◌, ℕ, ℤ, pos, Bool, Option, List, [], ◌∷◌, ◌++◌, map, refl, sym, ◌∙◌, append_assoc}
 use Rattle.std.proofs.lemmas.List.{append-nil}
 use Rattle.sps_scan.specs.Statement.{StatementText, statement_of}
 use Rattle.line_words.specs.Blanks.{trimmed}

@@ -1,6 +1,6 @@
 -- Where a statement puts its label and its digits, and where the next one begins.
--- Source: SPS manual, declarative operations and location counter; the labels of DSB, DDA and of lists of addresses,
--- and what a broken statement takes, are this project's own.
+-- Source: SPS manual, declarative operations and location counter; the exact lengths and labels of declaratives, and
+-- what a broken statement takes, are this project's own.
 use Rattle.std.specs.Prelude.{ℕ, suc, ◌+◌, ◌-◌, ◌*◌, ◌%◌, Bool, true, false, ◌==◌, List, [], ◌∷◌, Option, Some, None, if◌then◌else◌}
 use Rattle.sps_ops.specs.declared.operation.Operation.{Operation}
 use Rattle.sps_ops.specs.declared.operation.Operation.TheVariants.{Instruction, Declare}

@@ -1,6 +1,6 @@
-// Laws about faults and layouts.
-// Source: this project's own.
-ghost use Rattle.sps_pass_one.specs.Laws.{LeastLaw, NoFaultLaw, KnownLaw, MeasureLaw};
+// Laws about faults, layouts and symbols.
+// Source: SPS manual, labels; all else is this project's own.
+ghost use Rattle.sps_pass_one.specs.Laws.{LeastLaw, NoFaultLaw, KnownLaw, MeasureLaw, FirstLabelLaw, NoLabelLaw};
 
 /// The least of some faults is one of them, and none of them comes before it. There is none only where there are no faults.
 ///
@@ -23,4 +23,12 @@ pub fn known_law()
 /// It does nothing; its clause is the law.
 pub fn measure_law()
     ensures { MeasureLaw }
+{}
+
+/// The value of a symbol is the value of the label of the first statement that defines it. A symbol that no statement defines has no value.
+///
+/// It does nothing; its clauses are the law.
+pub fn symbol_law()
+    ensures first { FirstLabelLaw }
+    ensures none { NoLabelLaw }
 {}

@@ -7,6 +7,7 @@ ghost use Rattle.sps_pass_one.specs.Layout.{counts_if, operation_of, placing_if,
 use crate::ask::form_of;
 use crate::fault::{Fault, broken_if};
 use crate::heads::{head_faults, head_in};
+use crate::looked_up::LookedUp;
 use crate::operands::measure;
 use crate::place::{Place, Placing};
 use crate::placing::{nothing_at, placing_by};
@@ -88,10 +89,10 @@ pub fn counts_if(ended: bool, shape: Shape) -> bool
 /// The operation of a statement, or `None` where there is no such operation.
 ///
 /// Source: SPS manual, operation codes and declarative operations.
-pub fn operation_of(s: &Statement<'_>) -> Option<Operation>
-    ensures { result ≡ operation_of (statement_text s.now) }
+pub fn operation_of(s: &LookedUp<'_>) -> Option<Operation>
+    ensures { result ≡ operation_of (statement_text s.now.scanned.now) }
 {
-    s.found
+    s.operation
 }
 
 // What a statement does at a location; nothing where it does not count.
@@ -100,15 +101,15 @@ fn placing_if(
     head: Option<u8>,
     symbols: &Symbols,
     at: u64,
-    s: &Statement<'_>,
+    s: &LookedUp<'_>,
 ) -> Placing
     requires { at < 10 ^ 15 }
-    ensures is { result ≡ placing_if active head symbols.now at (statement_text s.now) }
+    ensures is { result ≡ placing_if active head symbols.now at (statement_text s.now.scanned.now) }
     ensures next { result.next ≤ at + 9999900000 }
     ensures label { result.label ≤ at + 9999900000 }
 {
     if active {
-        placing_by(at, head, symbols, s, operation_of(s))
+        placing_by(at, head, symbols, s.scanned, operation_of(s))
     } else {
         nothing_at(at)
     }
@@ -162,8 +163,8 @@ fn is_end(operation: Option<Operation>) -> bool
 ///
 /// `ended` says the same of this statement, and `active` whether this one counts.
 /// Source: this project's own.
-pub fn ends_if(ended: bool, active: bool, s: &Statement<'_>) -> bool
-    ensures { result ≡ ends_if ended active (statement_text s.now) }
+pub fn ends_if(ended: bool, active: bool, s: &LookedUp<'_>) -> bool
+    ensures { result ≡ ends_if ended active (statement_text s.now.scanned.now) }
 {
     ended || active && is_end(operation_of(s))
 }
@@ -177,12 +178,12 @@ fn is_head(operation: Option<Operation>) -> bool
 
 // The head in force behind a statement: a HEAD that counts and breaks no rule of its parts says it.
 // `head` is the one before the statement, and `active` says whether this one counts.
-pub(crate) fn head_after(head: Option<u8>, active: bool, s: &Statement<'_>) -> Option<u8>
-    ensures { result ≡ head_after head active (statement_text s.now) }
+pub(crate) fn head_after(head: Option<u8>, active: bool, s: &LookedUp<'_>) -> Option<u8>
+    ensures { result ≡ head_after head active (statement_text s.now.scanned.now) }
 {
     if active && is_head(operation_of(s)) {
-        match head_faults(None, s) {
-            None => head_in(s),
+        match head_faults(None, s.scanned) {
+            None => head_in(s.scanned),
             Some(_) => head,
         }
     } else {
@@ -206,9 +207,10 @@ pub fn locate(alloc: Global, source: &[u8]) -> Result<Located, AllocError>
     let mut at = 402;
     let mut walk = Walk::new(source);
     while let Some(line) = walk.next() {
-        let s = scan(line.text);
+        let scanned = scan(line.text);
+        let s = LookedUp::of(&scanned);
         let head = walk.head();
-        let active = counts_if(walk.ended(), s.shape);
+        let active = counts_if(walk.ended(), s.scanned.shape);
         let placing = placing_if(active, head, &symbols, at, &s);
         places.push(Place {
             location: at as i64,
@@ -216,7 +218,7 @@ pub fn locate(alloc: Global, source: &[u8]) -> Result<Located, AllocError>
             digits: placing.digits,
         })?;
         let label = Label {
-            name: trimmed(s.label),
+            name: trimmed(s.scanned.label),
             value: placing.label,
             statement: line.number,
         };
@@ -278,12 +280,20 @@ fn layout_faults(
     place: Place,
     ended: bool,
     number: u32,
-    s: &Statement<'_>,
+    s: &LookedUp<'_>,
 ) -> Option<Fault>
-    ensures { result ≡ least None (layout_faults head symbols.now place ended number (statement_text s.now)) }
+    ensures { result ≡ least None
+        (layout_faults head symbols.now place ended number (statement_text s.now.scanned.now)) }
 {
-    if counts_if(ended, s.shape) {
-        operation_faults(head, symbols, place.location, number, s, operation_of(s))
+    if counts_if(ended, s.scanned.shape) {
+        operation_faults(
+            head,
+            symbols,
+            place.location,
+            number,
+            s.scanned,
+            operation_of(s),
+        )
     } else {
         None
     }
@@ -301,7 +311,8 @@ fn first_broken_rule(source: &[u8], located: &Located) -> Option<(u32, Rule)>
         let [place, more @ ..] = places else {
             unreachable!()
         };
-        let s = scan(line.text);
+        let scanned = scan(line.text);
+        let s = LookedUp::of(&scanned);
         let head = walk.head();
         let ended = walk.ended();
         let faults = layout_faults(head, &located.symbols, *place, ended, line.number, &s);

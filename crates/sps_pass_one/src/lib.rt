@@ -11,6 +11,7 @@ mod fault;
 mod heads;
 mod laws;
 mod layout;
+mod looked_up;
 mod operands;
 mod place;
 mod placing;
@@ -19,11 +20,12 @@ mod walk;
 pub use ask::{Ask, Form, OperandReading, form_of};
 pub use fault::{Fault, broken_at_if, broken_if};
 pub use heads::head_faults;
-pub use laws::{known_law, least_law, measure_law};
+pub use laws::{known_law, least_law, measure_law, symbol_law};
 pub use layout::{
     Layout, Located, MOST_STATEMENTS, Places, counts_if, ends_if, is_label, lay_out, locate,
     operation_of,
 };
+pub use looked_up::LookedUp;
 pub use operands::{Answered, Measured, answer, in_bounds, is_blank, lacks, measure, part_at};
 pub use place::{Place, Placing};
 pub use placing::label_place;

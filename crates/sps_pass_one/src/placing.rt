@@ -54,7 +54,7 @@ fn field_size(d: Declarative, n: u64, k: u64) -> u64
 /// How many positions of a declarative's field stand before the one that its label is the address of.
 ///
 /// `n` is its length; for DSA it is 0 exactly where no address is listed.
-/// Source: SPS manual, declarative operations; the labels of DSB, DDA and of lists of addresses are this project's own.
+/// Source: SPS manual, declarative operations; the exact labels of declaratives are this project's own.
 pub fn label_place(d: Declarative, n: u64) -> u64
     ensures is { result ≡ label_place d n }
     ensures small { result ≤ n + 4 }

@@ -2,8 +2,8 @@
 ghost use Rattle.std.specs.Prelude.{◌≤◌};
 
 use crate::layout::{MOST_STATEMENTS, counts_if, ends_if, head_after};
+use crate::looked_up::LookedUp;
 use outside_io::split_line;
-use sps_scan::Statement;
 use std::marker::Model;
 
 /// A line of a source, as a walk comes to it.
@@ -98,10 +98,10 @@ impl<'a> Walk<'a> {
     ///
     /// Source: SPS manual, HEAD and DEND; which statements count is this project's own.
     #[inline(always)]
-    pub fn pass(&mut self, s: &Statement<'_>)
-        ensures { self.new ≡ walk_past self.old (statement_text s.now) }
+    pub fn pass(&mut self, s: &LookedUp<'_>)
+        ensures { self.new ≡ walk_past self.old (statement_text s.now.scanned.now) }
     {
-        let active = counts_if(self.ended, s.shape);
+        let active = counts_if(self.ended, s.scanned.shape);
         self.head = head_after(self.head, active, s);
         self.ended = ends_if(self.ended, active, s);
     }

@@ -13,14 +13,13 @@ use Rattle.sps_ops.specs.declared.operation.Operation.{Operation}
 use Rattle.sps_ops.specs.declared.operation.Operation.TheVariants.{Instruction, Declare}
 use Rattle.sps_ops.specs.declared.operation.Declarative.{Declarative}
 use Rattle.sps_ops.specs.declared.operation.Declarative.TheVariants.{Dc, Dsc, Dac, Dsa, Dnb, Dda}
-use Rattle.sps_ops.specs.Operations.{lookup}
 use Rattle.sps_scan.specs.declared.statement.Shape.{Shape}
 use Rattle.sps_scan.specs.declared.statement.Shape.TheVariants.{Comment, Blank, Long}
 use Rattle.line_words.specs.Blanks.{trimmed}
 use Rattle.sps_scan.specs.Columns.{columns, is_blank, has_comma, before_comma, after_comma}
 use Rattle.sps_scan.specs.Numbers.{short_number}
-use Rattle.sps_scan.specs.Operands.{behind_text, behind_number, dac_operands, operands_of}
-use Rattle.sps_scan.specs.Statement.{StatementText, statement_of, is_allowed, is_unfit, all_allowed, is_comment, without_parts, with_operands}
+use Rattle.sps_scan.specs.Operands.{behind_text, behind_number, dac_operands, has_text, operands_of}
+use Rattle.sps_scan.specs.Statement.{StatementText, statement_of, is_allowed, all_allowed, is_comment, without_parts, with_operands}
 use Rattle.sps_expr.specs.Grammar.{is_nothing}
 use Rattle.sps_expr.specs.Symbol.{SymbolEntry}
 use Rattle.sps_expr.specs.Earlier.{AreEarlier}
@@ -37,7 +36,10 @@ use Rattle.sps_pass_two.specs.Digits.{last_digits, with_first_flag, last_flagged
 use Rattle.sps_pass_two.specs.Operands.{operand_ask, disk_ask, addresses, address_list, value_or_0, flagged_address, instruction_digits, q_answer, flags_answer, part_digits}
 use Rattle.sps_pass_two.specs.Broken.{line_faults, label_faults, anywhere, is_bad_constant, constant_faults, digits_or_none, constant_digits, own_outcome, measure_of, others_of, declared_outcome, outcome_by_operation, begins_at, is_outside, outcome_if, statement_outcome}
 use Rattle.sps_pass_two.specs.Kept.{lowest_declared}
+use Rattle.sps_pass_two.specs.SourceCharacters.{is_unfit}
 use Rattle.sps_pass_two.specs.Assembled.{statement_run}
+use Rattle.sps_pass_two.proofs.PartNames.{dac_named}
+use Rattle.sps_pass_two.proofs.SourceCharacters.{allowed_is}
 use Rattle.sps_pass_two.proofs.NoFaults.{nil_parts, not_broken, not_broken_at, negated}
 use Rattle.sps_pass_two.proofs.Refusing.{faults_at}
 use Rattle.sps_pass_two.proofs.Holding.{LiesAbove}
@@ -154,10 +156,9 @@ has_digits None h = absurd cc
 has_digits (Some p) h = refl
 
 length_character : (b : ℕ) → is_allowed b ≡ true → length (character_digits b) ≡ 2
-unfolding is_allowed
 length_character b h = by_bool (b == 64)
     (λ t. rw t refl)
-    (λ f. let p = and_parts (is_some (alpha_of b)) (not (is_unfit b)) h in rw f (length_pair (pair_of b) (has_digits (alpha_of b) p.0)))
+    (λ f. let p = and_parts (is_some (alpha_of b)) (not (is_unfit b)) (sym (allowed_is b) ∙ h) in rw f (length_pair (pair_of b) (has_digits (alpha_of b) p.0)))
 
 length_blanks : (n : ℕ) → length (characters_digits (replicate n 32)) ≡ 2 * n
 unfolding characters_digits pair_in
@@ -274,9 +275,8 @@ dac_fits line text = by_bool (has_comma text)
     (λ t. rw t (number_fits line (before_comma text) (after_comma text) (short_number (before_comma text)) refl))
     (λ f. rw f (λ n h. omega arith))
 
-operands_fit : (line text : List ℕ) (operation : Option Operation) → operation ≡ Some (Declare Dac)
-    → TextFits (with_operands line (operands_of operation text))
-operands_fit line text operation h = rw h (dac_fits line text)
+operands_fit : (line text name : List ℕ) → has_text name ≡ true → TextFits (with_operands line (operands_of name text))
+operands_fit line text name h = rw h (dac_fits line text)
 
 none_fits : (shape : Shape) → TextFits (without_parts shape)
 none_fits shape n h = omega arith
@@ -289,7 +289,7 @@ line_fits line h = by_bool (nat_lt 80 (length line))
     (λ t. rw (f, t) (none_fits Comment))
     (λ g. by_bool (is_blank (columns 6 75 line))
     (λ t. rw (f, g, t) (none_fits Blank))
-    (λ e. rw (f, g, e) (operands_fit line (columns 16 75 line) (lookup (columns 12 15 line)) (rw (f, g, e) at h)))))
+    (λ e. rw (f, g, e) (operands_fit line (columns 16 75 line) (trimmed (columns 12 15 line)) (dac_named (columns 12 15 line) (rw (f, g, e) at h))))))
 
 above_least : (positions from n : ℕ) → is_outside positions from n ≡ false → 0 < n → lowest_declared ≤ from
 above_least positions from n inside some = grind (arith, nat_tests)

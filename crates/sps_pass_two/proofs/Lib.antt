@@ -1,3 +1,5 @@
+pub mod SourceCharacters
+pub mod PartNames
 pub mod Flags
 pub mod FlagParts
 pub mod Chains

@@ -1,3 +1,5 @@
+pub mod SourceCharacters
+pub mod PartNames
 pub mod Digits
 pub mod DigitList
 pub mod Operands

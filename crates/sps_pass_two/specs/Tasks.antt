@@ -10,7 +10,7 @@ use Rattle.sps_pass_two.specs.Making.{start_value}
 
 -- its statement
 abbrev pub text_in : Task → StatementText
-text_in t = statement_text t.statement.now
+text_in t = statement_text t.statement.now.scanned.now
 
 -- a declarative beside its n, k and A, n being its length
 abbrev pub own_outcome_in : Declarative → Task → ℕ → StatementOutcome

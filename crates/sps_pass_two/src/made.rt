@@ -60,7 +60,7 @@ fn start_value_in(task: &Task<'_>) -> u32
         here: task.place.location,
         before: None,
     };
-    let found = answer(None, task.statement, operand_ask(0), &scope);
+    let found = answer(None, task.statement.scanned, operand_ask(0), &scope);
     value_or_0(found.value).unsigned_abs() as u32
 }
 
@@ -72,7 +72,7 @@ fn placed_with(task: &Task<'_>, digits: Vec<Digit>) -> Placed
 {
     Placed {
         address: task.place.label,
-        instruction: counts_if(task.ended, task.statement.shape)
+        instruction: counts_if(task.ended, task.statement.scanned.shape)
             && is_instruction(operation_of(task.statement)),
         digits: Digits::from_vec(digits),
     }
@@ -86,7 +86,7 @@ impl MadeSoFar {
     {
         let from = first_address(operation_of(task.statement), task.place);
         write(&mut self.cells, from as usize, &digits);
-        let active = counts_if(task.ended, task.statement.shape);
+        let active = counts_if(task.ended, task.statement.scanned.shape);
         let ends = ends_if(task.ended, active, task.statement);
         if ends && !task.ended {
             self.start = start_value_in(task);

@@ -13,7 +13,7 @@ use crate::made::{MadeSoFar, nothing_made};
 use crate::refuse::end_faults;
 use crate::statement::statement_outcome;
 use crate::task::Task;
-use sps_pass_one::{Walk, locate};
+use sps_pass_one::{LookedUp, Walk, locate};
 use sps_scan::scan;
 use std::alloc::{AllocError, Global};
 
@@ -53,7 +53,8 @@ pub fn assemble(alloc: Global, source: &[u8], positions: u32) -> Result<Assemble
         let [place, more @ ..] = places else {
             unreachable!()
         };
-        let s = scan(line.text);
+        let scanned = scan(line.text);
+        let s = LookedUp::of(&scanned);
         let head = walk.head();
         let ended = walk.ended();
         let size = u64::from(positions);

@@ -172,7 +172,7 @@ fn own_outcome(
     requires { task.now.positions ≤ MOST_POSITIONS }
     ensures { IfOk result (GivesOutcome worst (own_outcome_in d task.now n)) }
 {
-    let s = task.statement;
+    let s = task.statement.scanned;
     let scope = Scope {
         head: task.head,
         symbols: task.symbols,
@@ -231,7 +231,7 @@ fn declared_outcome(
         here: task.place.location,
         before: Some(task.number),
     };
-    let m = measure(worst, task.statement, form_of(d), &scope);
+    let m = measure(worst, task.statement.scanned, form_of(d), &scope);
     let outcome = own_outcome(alloc, m.worst, d, task, m.n)?;
     Ok(outcome)
 }
@@ -265,7 +265,7 @@ fn outcome_of(
                 q,
                 immediate,
             };
-            instruction_outcome(alloc, worst, task.statement, &scope, coded)
+            instruction_outcome(alloc, worst, task.statement.scanned, &scope, coded)
         }
         Some(Operation::Declare(d)) => declared_outcome(alloc, worst, d, task),
     }
@@ -302,7 +302,7 @@ fn counting_outcome(
     requires { task.now.positions ≤ MOST_POSITIONS }
     ensures { IfOk result (GivesOutcome worst (counting_outcome_in task.now)) }
 {
-    let name = trimmed(task.statement.label);
+    let name = trimmed(task.statement.scanned.label);
     let worst = label_faults(worst, task.head, task.symbols, name, task.number);
     let outcome = outcome_of(alloc, worst, task)?;
     let from = first_address(operation_of(task.statement), task.place);
@@ -339,7 +339,7 @@ pub(crate) fn statement_outcome(
     requires { task.now.positions ≤ MOST_POSITIONS }
     ensures { IfOk result (GivesOutcome None (statement_outcome_in task.now)) }
 {
-    let shape = task.statement.shape;
+    let shape = task.statement.scanned.shape;
     let worst = line_faults(shape, task.ended, task.number);
     let active = counts_if(task.ended, shape);
     let outcome = outcome_if(alloc, worst, task, active)?;

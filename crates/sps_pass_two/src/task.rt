@@ -1,15 +1,14 @@
 // What is known of a statement before its rules are looked at.
 use sps_expr::Symbols;
-use sps_pass_one::Place;
-use sps_scan::Statement;
+use sps_pass_one::{LookedUp, Place};
 
 /// A statement of the second pass, and what the rules that it breaks and the digits that it declares depend on.
 ///
 /// Source: this project's own.
 #[derive(Clone, Copy)]
 pub(crate) struct Task<'s> {
-    /// The statement.
-    pub statement: &'s Statement<'s>,
+    /// The statement with its operation.
+    pub statement: &'s LookedUp<'s>,
     /// Where it stands.
     pub place: Place,
     /// Its number, the first being 1.

@@ -2,7 +2,6 @@
 use Rattle.std.proofs.Common.{◌≡◌, ◌∙◌, ℕ, ◌<◌, false, map, get_or, refl, sym, ap, arith}
 use Rattle.std.specs.List.{range_with_len}
 use Rattle.std.proofs.lemmas.List.FromFn.{get_or-map-range_with_len}
-use Rattle.card_code.specs.Pairs.{pair_in}
 use Rattle.sps_scan.specs.Statement.{is_allowed}
 use Rattle.sps_scan.specs.declared.characters.TheConstants.{ALLOWED}
 
@@ -13,5 +12,5 @@ same_below f g n k x same below =
 
 -- the table has the truth of each byte
 pub allowed_at : (b : ℕ) → b < 256 → get_or ALLOWED b false ≡ is_allowed b
-unfolding is_allowed pair_in
+unfolding is_allowed
 allowed_at b below = same_below (λ b. get_or ALLOWED b false) is_allowed 256 b false refl below

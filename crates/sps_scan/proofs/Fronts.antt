@@ -3,12 +3,9 @@ use Rattle.std.proofs.Common.{◌≡◌, ◌∙◌, ℕ, zero, suc, ◌+◌, ◌
 use Rattle.std.proofs.lemmas.List.{append-nil, take-append-drop}
 use Rattle.std.proofs.lemmas.List.Folds.{list_all-append}
 use Rattle.std.proofs.Math.Seq.{take-append_seam}
-use Rattle.card_code.specs.Pairs.{pair_in}
-use Rattle.sps_ops.specs.declared.operation.Operation.{Operation}
-use Rattle.sps_ops.specs.Parts.{most_parts}
 use Rattle.sps_scan.specs.Columns.{before_comma, after_comma, has_comma}
 use Rattle.sps_scan.specs.Numbers.{short_number}
-use Rattle.sps_scan.specs.Operands.{parts_of, remark_of, behind_text, behind_number, dac_operands, has_text, operands_of}
+use Rattle.sps_scan.specs.Operands.{parts_of, remark_of, behind_text, behind_number, dac_operands, most_parts, has_text, operands_of}
 use Rattle.sps_scan.specs.Statement.{is_allowed, all_allowed, parts_allowed, shape_of}
 use Rattle.sps_scan.specs.declared.statement.Shape.TheVariants.{BadColumn, Plain}
 use Rattle.sps_scan.proofs.Places.{by_test, is_comma, after_none}
@@ -44,7 +41,7 @@ no_comma (b ∷ bs) h =
 
 -- two texts with a comma between them
 both_allowed : (first second : List ℕ) → all_allowed (first ++ 44 ∷ second) ≡ (all_allowed first && all_allowed second)
-unfolding is_allowed pair_in
+unfolding is_allowed
 both_allowed first second = list_all-append _ first (44 ∷ second)
 
 -- a part that a comma ends, before others
@@ -96,23 +93,23 @@ dac_fronted text = by_test (has_comma text)
     (λ h. rw h (subst (λ t. IsFronted t (behind_number (before_comma text) (after_comma text) (short_number (before_comma text))).parts (behind_number (before_comma text) (after_comma text) (short_number (before_comma text))).remark) (comma_split text h) (number_fronted (before_comma text) (after_comma text) (short_number (before_comma text)))))
     (λ h. rw h (subst (λ p. IsFronted text (p ∷ []) []) (sym (no_comma text h)) (alone text)))
 
-fronted : (operation : Option Operation) (text : List ℕ) → IsFronted text (operands_of operation text).parts (operands_of operation text).remark
-fronted operation text = by_test (has_text operation) (λ h. rw h (dac_fronted text)) (λ h. rw h (parts_fronted (most_parts operation) text))
+fronted : (name : List ℕ) (text : List ℕ) → IsFronted text (operands_of name text).parts (operands_of name text).remark
+fronted name text = by_test (has_text name) (λ h. rw h (dac_fronted text)) (λ h. rw h (parts_fronted (most_parts name) text))
 
--- the operands of an operation, by what stands in front of the remark
-module _ (operation : Option Operation) (text : List ℕ) where
-  lengths : length (fronted operation text).front + length (operands_of operation text).remark ≡ length text
-  lengths = sym (length-append (fronted operation text).front (operands_of operation text).remark) ∙ ap length (fronted operation text).whole
+-- the operands, by what stands in front of the remark
+module _ (name : List ℕ) (text : List ℕ) where
+  lengths : length (fronted name text).front + length (operands_of name text).remark ≡ length text
+  lengths = sym (length-append (fronted name text).front (operands_of name text).remark) ∙ ap length (fronted name text).whole
 
-  pub remark_fits : length (operands_of operation text).remark ≤ length text
+  pub remark_fits : length (operands_of name text).remark ≤ length text
   remark_fits = omega (arith, lengths)
 
-  pub front_allowed : all_allowed (take (length text - length (operands_of operation text).remark) text) ≡ parts_allowed (operands_of operation text).parts
+  pub front_allowed : all_allowed (take (length text - length (operands_of name text).remark) text) ≡ parts_allowed (operands_of name text).parts
   front_allowed =
-      let f = fronted operation text in
-      let n : length text - length (operands_of operation text).remark ≡ length f.front = omega (arith, lengths) in
-      let front : take (length f.front) text ≡ f.front = ap (take (length f.front)) (sym f.whole) ∙ take-append_seam f.front (operands_of operation text).remark in
+      let f = fronted name text in
+      let n : length text - length (operands_of name text).remark ≡ length f.front = omega (arith, lengths) in
+      let front : take (length f.front) text ≡ f.front = ap (take (length f.front)) (sym f.whole) ∙ take-append_seam f.front (operands_of name text).remark in
       ap all_allowed (ap (λ k. take k text) n ∙ front) ∙ f.same
 
-  pub shape_is : (front : List ℕ) → shape_of front (take (length text - length (operands_of operation text).remark) text ∷ []) ≡ shape_of front (operands_of operation text).parts
+  pub shape_is : (front : List ℕ) → shape_of front (take (length text - length (operands_of name text).remark) text ∷ []) ≡ shape_of front (operands_of name text).parts
   shape_is front = ap (λ t. if all_allowed front && t then Plain else BadColumn) (and-true _ ∙ front_allowed)

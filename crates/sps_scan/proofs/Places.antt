@@ -3,12 +3,10 @@ use Rattle.std.proofs.Common.{◌≡◌, ◌∙◌, ℕ, zero, suc, ◌+◌, ◌
 use Rattle.std.proofs.lemmas.List.{get_or-take, get_or-drop, take-take, drop-take, drop-drop, length-take, take_min}
 use Rattle.std.proofs.lemmas.Bool.Decides.{nat_tests}
 use Rattle.std.proofs.Math.Seq.{take-append_seam, drop-nil}
-use Rattle.sps_ops.specs.declared.operation.Operation.{Operation}
-use Rattle.sps_ops.specs.Parts.{most_parts}
 use Rattle.sps_scan.specs.declared.statement.Shape.{Shape}
 use Rattle.sps_scan.specs.Columns.{columns, before_comma, after_comma, has_comma}
 use Rattle.sps_scan.specs.Numbers.{short_number}
-use Rattle.sps_scan.specs.Operands.{OperandParts, parts_of, remark_of, parts_and_remark, behind_text, behind_number, dac_operands, has_text, operands_of}
+use Rattle.sps_scan.specs.Operands.{OperandParts, parts_of, remark_of, parts_and_remark, behind_text, behind_number, dac_operands, most_parts, has_text, operands_of}
 use Rattle.sps_scan.specs.Statement.{StatementText, without_parts, with_operands}
 use Rattle.sps_scan.specs.Spans.{LineSpan, span_text, AreInOrder, Follows, FollowOn, ArePartedFrom, AreInPlace}
 
@@ -273,8 +271,8 @@ either_stands : (line : List ℕ) (at to : ℕ) (b : Bool) (x y : OperandParts) 
 either_stands line at to true x y s t = s
 either_stands line at to false x y s t = t
 
-operands_stand : (line : List ℕ) (operation : Option Operation) → Stand line 15 75 (operands_of operation (columns 16 75 line)).parts (operands_of operation (columns 16 75 line)).remark
-operands_stand line operation = either_stands line 15 75 (has_text operation) (dac_operands (columns 16 75 line)) (parts_and_remark (most_parts operation) (columns 16 75 line)) (dac_stands line 15 75 (omega arith)) (parts_stand (most_parts operation) line 15 75 (omega arith))
+operands_stand : (line : List ℕ) (name : List ℕ) → Stand line 15 75 (operands_of name (columns 16 75 line)).parts (operands_of name (columns 16 75 line)).remark
+operands_stand line name = either_stands line 15 75 (has_text name) (dac_operands (columns 16 75 line)) (parts_and_remark (most_parts name) (columns 16 75 line)) (dac_stands line 15 75 (omega arith)) (parts_stand (most_parts name) line 15 75 (omega arith))
 
 pub placed_without : (line : List ℕ) (shape : Shape) (s : StatementText) → s ≡ without_parts shape → AreInPlace line s
 placed_without line shape s e = subst (AreInPlace line) (sym e) (
@@ -296,10 +294,10 @@ placed_without line shape s e = subst (AreInPlace line) (sym e) (
   },
 )
 
-pub placed_with : (line : List ℕ) (operation : Option Operation) (s : StatementText) → s ≡ with_operands line (operands_of operation (columns 16 75 line)) → AreInPlace line s
-placed_with line operation s e =
-    let o = operands_of operation (columns 16 75 line) in
-    let stands = operands_stand line operation in
+pub placed_with : (line : List ℕ) (name : List ℕ) (s : StatementText) → s ≡ with_operands line (operands_of name (columns 16 75 line)) → AreInPlace line s
+placed_with line name s e =
+    let o = operands_of name (columns 16 75 line) in
+    let stands = operands_stand line name in
     subst (AreInPlace line) (sym e) (
       record {
         label = record { from = 5; size = 6 };

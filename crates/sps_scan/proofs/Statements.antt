@@ -4,7 +4,7 @@ use Rattle.std.proofs.lemmas.Bool.Decides.{nat_tests}
 use Rattle.sps_scan.specs.declared.statement.Shape.{Shape}
 use Rattle.sps_scan.specs.declared.statement.Shape.TheVariants.{BadColumn, Plain}
 use Rattle.sps_scan.specs.Operands.{OperandParts, operands_of, ten_parts}
-use Rattle.sps_ops.specs.Operations.{lookup}
+use Rattle.line_words.specs.Blanks.{trimmed}
 use Rattle.sps_scan.specs.Columns.{columns, is_blank}
 use Rattle.sps_scan.specs.Statement.{all_allowed, parts_allowed, shape_of, with_operands, statement_of, is_comment, holds_nothing}
 
@@ -33,7 +33,7 @@ module _ (line : List ℕ) where
   blank_or_more true fits comment blank = let l : nat_lt 80 (length line) ≡ false = grind (arith, nat_tests) in rw (l, comment, blank)
   blank_or_more false fits comment blank =
       let l : nat_lt 80 (length line) ≡ false = grind (arith, nat_tests) in
-      rw (l, comment, blank) (something (all_allowed (columns 6 15 line) && parts_allowed (operands_of (lookup (columns 12 15 line)) (columns 16 75 line)).parts))
+      rw (l, comment, blank) (something (all_allowed (columns 6 15 line) && parts_allowed (operands_of (trimmed (columns 12 15 line)) (columns 16 75 line)).parts))
 
   pub by_blank : length line ≤ 80 → is_comment line ≡ false → holds_nothing (statement_of line).shape ≡ is_blank (columns 6 75 line)
   by_blank fits comment = blank_or_more (is_blank (columns 6 75 line)) fits comment refl

@@ -1,10 +1,8 @@
 -- Operands parted by commas, and the remark behind them.
--- Source: SPS manual, coding sheet and declarative operations; the parting of operands and remark is this project's own.
-use Rattle.std.specs.Prelude.{ℕ, zero, suc, ◌-◌, Bool, true, false, List, [], ◌∷◌, ◌++◌, length, replicate, take, drop, ◌==◌, if◌then◌else◌, Option, Some, None}
-use Rattle.sps_ops.specs.declared.operation.Operation.{Operation}
-use Rattle.sps_ops.specs.declared.operation.Operation.TheVariants.{Declare}
-use Rattle.sps_ops.specs.declared.operation.Declarative.TheVariants.{Dac}
-use Rattle.sps_ops.specs.Parts.{most_parts}
+-- Source: SPS manual, coding sheet and declarative operations; the numbers of parts, and the parting of operands and remark, are this
+-- project's own.
+use Rattle.std.specs.Prelude.{ℕ, zero, suc, ◌-◌, Bool, List, [], ◌∷◌, ◌++◌, length, replicate, take, drop, codes, bytes_eq, ◌==◌, if◌then◌else◌, Option, Some, None, unwrap_or}
+use Rattle.line_words.specs.Rows.{NameRow, row, value_by_name}
 use Rattle.sps_scan.specs.Columns.{before_comma, after_comma, has_comma}
 use Rattle.sps_scan.specs.Numbers.{short_number}
 
@@ -45,14 +43,23 @@ dac_operands text =
     if has_comma text then behind_number (before_comma text) (after_comma text) (short_number (before_comma text))
     else record { parts = before_comma text ∷ []; remark = [] }
 
--- a DAC has a text
-abbrev pub has_text : Option Operation → Bool
-has_text (Some (Declare Dac)) = true
-has_text operation = false
+-- the operations whose operands have another number of parts than three, each with the greatest number
+abbrev pub part_counts : List (NameRow ℕ)
+part_counts =
+    row "DS" 2 ∷ row "DSS" 2 ∷ row "DAS" 2 ∷ row "DSA" 10 ∷ row "DNB" 2
+    ∷ row "DGM" 1 ∷ row "DDA" 4 ∷ row "DORG" 1 ∷ row "DEND" 1 ∷ []
 
--- the operands, by the operation
-abbrev pub operands_of : Option Operation → List ℕ → OperandParts
-operands_of operation text = if has_text operation then dac_operands text else parts_and_remark (most_parts operation) text
+-- the greatest number of parts, by the name of the operation; any other name has three
+abbrev pub most_parts : List ℕ → ℕ
+most_parts name = unwrap_or (value_by_name part_counts name) 3
+
+-- a DAC has a text
+abbrev pub has_text : List ℕ → Bool
+has_text name = bytes_eq name (codes "DAC")
+
+-- the operands, by the name of the operation
+abbrev pub operands_of : List ℕ → List ℕ → OperandParts
+operands_of name text = if has_text name then dac_operands text else parts_and_remark (most_parts name) text
 
 -- ten texts: the parts, and empty ones behind them
 abbrev pub ten_parts : List (List ℕ) → List (List ℕ)

@@ -1,16 +1,15 @@
 -- The special characters of the assembler: those that are no letter, no digit and no blank.
 -- Source: SPS manual, coding sheet; how a message tells them is this project's own.
-use Rattle.std.specs.Prelude.{ℕ, Bool, not, ◌&&◌, ◌||◌, ◌==◌, List, [], ◌∷◌, map, filter, flat_map}
+use Rattle.std.specs.Prelude.{ℕ, Bool, not, ◌||◌, ◌==◌, List, [], ◌∷◌, filter, flat_map}
 use Rattle.std.specs.Char.{is_ascii_digit, is_ascii_uppercase}
-use Rattle.card_code.specs.Pairs.{pair_table}
-use Rattle.sps_scan.specs.Statement.{is_allowed}
+use Rattle.sps_scan.specs.Statement.{source_characters}
 
 abbrev pub is_special : ℕ → Bool
-is_special b = is_allowed b && not (is_ascii_uppercase b || is_ascii_digit b || (b == 32))
+is_special b = not (is_ascii_uppercase b || is_ascii_digit b || (b == 32))
 
--- all of them, in the order in which the table of pairs has them
+-- all of them, in the order of their pairs of digits on cards
 abbrev pub special_characters : List ℕ
-special_characters = filter is_special (map (λ e. e.char) pair_table)
+special_characters = filter is_special source_characters
 
 -- as a message tells them: a blank before each
 unfoldable pub special_text : List ℕ

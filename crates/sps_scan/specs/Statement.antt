@@ -1,13 +1,12 @@
 -- A line as a statement.
 -- Source: SPS manual, coding sheet; that a line has at most 80 bytes, and what it is first, are this project's own.
-use Rattle.std.specs.Prelude.{ℕ, Bool, true, false, not, ◌&&◌, ◌||◌, List, [], length, replicate, map, nat_lt, ◌==◌, if◌then◌else◌, is_some, slice_index_or}
-use Rattle.std.specs.List.{list_all}
+use Rattle.std.specs.Prelude.{ℕ, Bool, true, false, ◌&&◌, List, [], length, replicate, map, codes, nat_lt, ◌==◌, if◌then◌else◌, slice_index_or}
+use Rattle.std.specs.List.{list_all, list_any}
 use Rattle.std.specs.Borrow.{Bor}
 use Rattle.sps_scan.specs.declared.statement.Shape.{Shape}
 use Rattle.sps_scan.specs.declared.statement.Shape.TheVariants.{Comment, Blank, Long, BadColumn, Plain}
 use Rattle.sps_scan.specs.declared.statement.Statement.{Statement}
-use Rattle.card_code.specs.Pairs.{alpha_of}
-use Rattle.sps_ops.specs.Operations.{lookup}
+use Rattle.line_words.specs.Blanks.{trimmed}
 use Rattle.sps_scan.specs.Columns.{columns, is_blank}
 use Rattle.sps_scan.specs.Operands.{OperandParts, operands_of, ten_parts}
 
@@ -35,13 +34,13 @@ statement_text s = record {
   remark = s.remark.now;
 }
 
--- a character of cards that the assembler does not take: `]`, `}` and `|`
-abbrev pub is_unfit : ℕ → Bool
-is_unfit b = (b == 93) || ((b == 125) || (b == 124))
+-- the characters of the assembler, in the order of their pairs of digits on cards
+abbrev pub source_characters : List ℕ
+source_characters = codes " .)+$*-/,(=@ABCDEFGHIJKLMNOPQRSTUVWXYZ0123456789"
 
--- a character of the assembler: one that has a pair of digits, but for those
+-- a character of the assembler
 unfoldable pub is_allowed : ℕ → Bool
-is_allowed b = is_some (alpha_of b) && not (is_unfit b)
+is_allowed b = list_any (λ c. c == b) source_characters
 
 -- each character is one of the assembler
 abbrev pub all_allowed : List ℕ → Bool
@@ -89,7 +88,7 @@ with_operands line o = record {
 
 -- a line that is neither long, nor a comment, nor blank: the operation says into how many parts the operands are parted
 abbrev pub with_operation : List ℕ → StatementText
-with_operation line = with_operands line (operands_of (lookup (columns 12 15 line)) (columns 16 75 line))
+with_operation line = with_operands line (operands_of (trimmed (columns 12 15 line)) (columns 16 75 line))
 
 -- the statement of a line
 unfoldable pub statement_of : List ℕ → StatementText

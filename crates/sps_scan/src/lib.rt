@@ -17,8 +17,7 @@ pub use characters::SPECIALS;
 use characters::is_allowed;
 use columns::{columns, is_blank};
 use operands::operands_of;
-pub use operands::short_number;
-use sps_ops::lookup;
+pub use operands::{most_parts, short_number};
 pub use statement::{Shape, Statement};
 
 /// The statement of a line. It never refuses: what is wrong with a line is told by its shape alone.
@@ -71,7 +70,6 @@ fn without_parts<'a>(shape: Shape, card: &'a [u8]) -> Statement<'a>
         shape,
         label: nothing,
         operation: nothing,
-        found: None,
         parts: [nothing; 10],
         count: 0,
         remark: nothing,
@@ -83,15 +81,13 @@ fn with_parts<'a>(card: &'a [u8]) -> Statement<'a>
     ensures { statement_text result ≡ with_operation card.now }
 {
     let operation = columns(12, 15, card);
-    let found = lookup(operation);
     let text = columns(16, 75, card);
-    let operands = operands_of(found, text);
+    let operands = operands_of(operation, text);
     let front = &text[..text.len() - operands.remark.len()];
     Statement {
         shape: shape_of(columns(6, 15, card), front),
         label: columns(6, 11, card),
         operation,
-        found,
         parts: operands.parts,
         count: operands.count,
         remark: operands.remark,
@@ -109,7 +105,7 @@ fn shape_of(columns: &[u8], operands: &[u8]) -> Shape
     }
 }
 
-/// Whether each byte of a text is a character of the assembler: one that has a pair of digits on cards, but for `]`, `}` and `|`.
+/// Whether each byte of a text is a character of the assembler: a blank, a letter, a digit or one of [`SPECIALS`].
 ///
 /// Source: SPS manual, character set; that `]`, `}` and `|` are left out is this project's own.
 pub fn all_allowed(text: &[u8]) -> bool

@@ -2,11 +2,25 @@
 ghost use Rattle.std.specs.Prelude.{◌≡◌, ◌≤◌, length, map};
 ghost use Rattle.sps_scan.specs.Columns.{before_comma, after_comma};
 ghost use Rattle.sps_scan.specs.Numbers.{short_number};
-ghost use Rattle.sps_scan.specs.Operands.{operands_of, has_text, ten_parts, parts_of, remark_of, dac_operands};
+ghost use Rattle.sps_scan.specs.Operands.{operands_of, most_parts, ten_parts, parts_of, remark_of, dac_operands};
 ghost use Rattle.sps_scan.specs.Statement.{now_of};
+ghost use Rattle.line_words.specs.Blanks.{trimmed};
 
 use crate::columns::split_comma;
-use sps_ops::{Declarative, Operation, most_parts};
+use line_words::{find, trimmed};
+
+// The operations whose operands have another number of parts than three, each with the greatest number.
+static PART_COUNTS: [(&str, usize); 9] = [
+    ("DS", 2),
+    ("DSS", 2),
+    ("DAS", 2),
+    ("DSA", 10),
+    ("DNB", 2),
+    ("DGM", 1),
+    ("DDA", 4),
+    ("DORG", 1),
+    ("DEND", 1),
+];
 
 // The parts of the operands, the number of parts that there are, and the remark.
 #[derive(Clone, Copy)]
@@ -16,25 +30,45 @@ pub(crate) struct OperandParts<'a> {
     pub(crate) remark: &'a [u8],
 }
 
-// The operands in columns 16 to 75, by the operation.
-pub(crate) fn operands_of<'a>(operation: Option<Operation>, text: &'a [u8]) -> OperandParts<'a>
-    ensures parts { map now_of result.parts ≡ ten_parts (operands_of operation text.now).parts }
-    ensures count { result.count ≡ length (operands_of operation text.now).parts }
+// The operands in columns 16 to 75, by the operation in columns 12 to 15.
+pub(crate) fn operands_of<'a>(operation: &[u8], text: &'a [u8]) -> OperandParts<'a>
+    ensures parts { map now_of result.parts
+        ≡ ten_parts (operands_of (trimmed operation.now) text.now).parts }
+    ensures count { result.count ≡ length (operands_of (trimmed operation.now) text.now).parts }
     ensures few { result.count ≤ 10 }
-    ensures remark { result.remark.now ≡ (operands_of operation text.now).remark }
+    ensures remark { result.remark.now ≡ (operands_of (trimmed operation.now) text.now).remark }
 {
-    if has_text(operation) {
-        dac_operands(text)
-    } else {
-        parted(most_parts(operation), text)
+    match operation {
+        // Only names that begin with a D have a text, or another number of parts than three.
+        [first, ..] if *first != b'D' && *first != b' ' => parted(3, text),
+        _ => named_operands(trimmed(operation), text),
     }
 }
 
-// A DAC has a text.
-fn has_text(operation: Option<Operation>) -> bool
-    ensures { result ≡ has_text operation }
+// The operands, by the name of the operation.
+fn named_operands<'a>(name: &[u8], text: &'a [u8]) -> OperandParts<'a>
+    ensures parts { map now_of result.parts ≡ ten_parts (operands_of name.now text.now).parts }
+    ensures count { result.count ≡ length (operands_of name.now text.now).parts }
+    ensures few { result.count ≤ 10 }
+    ensures remark { result.remark.now ≡ (operands_of name.now text.now).remark }
 {
-    matches!(operation, Some(Operation::Declare(Declarative::Dac)))
+    if name == b"DAC".as_slice() {
+        dac_operands(text)
+    } else {
+        parted(most_parts(name), text)
+    }
+}
+
+/// The greatest number of parts that the operands of a statement have, by the name of its operation: 3 for an instruction, and for a text
+/// that names no operation.
+///
+/// Source: SPS manual, declarative operations; the numbers are this project's own.
+pub fn most_parts(name: &[u8]) -> usize
+    ensures is { result ≡ most_parts name.now }
+    ensures some { 1 ≤ result }
+    ensures ten { result ≤ 10 }
+{
+    find(&PART_COUNTS, name).unwrap_or(3)
 }
 
 // At most so many parts, each ended by a comma or by the end of the text.

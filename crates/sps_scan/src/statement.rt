@@ -1,8 +1,5 @@
 // What a line is read as.
-ghost use Rattle.std.specs.Prelude.{◌≡◌, ◌≤◌};
-ghost use Rattle.sps_ops.specs.Operations.{lookup};
-
-use sps_ops::Operation;
+ghost use Rattle.std.specs.Prelude.{◌≤◌};
 
 /// What a line is. Where several of these fit, it is the first of `Long`, `Comment`, `Blank`, `BadColumn` and `Plain`.
 ///
@@ -24,7 +21,7 @@ pub enum Shape {
 
 /// A line as a statement, as far as the line has its columns. All texts are slices of the line.
 ///
-/// Where the shape is Comment, Blank or Long all texts are empty, there is no operation, and the count is 0.
+/// Where the shape is Comment, Blank or Long all texts are empty, and the count is 0.
 /// Source: SPS manual, coding sheet; the parting of operands and remark is this project's own.
 #[derive(Clone, Copy, Debug)]
 pub struct Statement<'a> {
@@ -34,8 +31,6 @@ pub struct Statement<'a> {
     pub label: &'a [u8],
     /// Columns 12 to 15, with their blanks.
     pub operation: &'a [u8],
-    /// The operation that these columns name, or `None` where there is no such operation.
-    pub found: Option<Operation>,
     /// The parts of the operands, from the first on; the slices behind those that count are empty.
     pub parts: [&'a [u8]; 10],
     /// The number of parts, 1 to 10: one more than the commas that part them.
@@ -43,5 +38,4 @@ pub struct Statement<'a> {
     /// What follows the comma behind the last part that the operation may have.
     pub remark: &'a [u8],
     ghost few: { count ≤ 10 },
-    ghost named: { found ≡ lookup operation.now },
 }

@@ -1,6 +1,6 @@
 // Layouts of short sources, and of one that is too long.
 use sps_ops::Rule;
-use sps_pass_one::{Layout, Places, Walk, counts_if, lay_out, locate};
+use sps_pass_one::{Layout, LookedUp, Places, Walk, counts_if, lay_out, locate};
 use sps_scan::scan;
 use std::alloc::{AllocError, Global};
 
@@ -329,7 +329,7 @@ fn walks(source: &[u8], want: &[Reached]) -> bool {
         if (line.number, walk.head(), walk.ended(), counts) != reached {
             return false;
         }
-        walk.pass(&s);
+        walk.pass(&LookedUp::of(&s));
     }
     walk.next().is_none()
 }

@@ -1,5 +1,5 @@
 -- What a keyboard has read, as its next line is taken and stored.
-use Rattle.std.proofs.Common.{◌≡◌, ℕ, suc, ◌+◌, List, [], ◌∷◌, ◌++◌, length, map, refl, sym, ◌∙◌, ap, subst, append_assoc, length-append, arith}
+use Rattle.std.proofs.Common.{◌≡◌, ℕ, suc, ◌+◌, List, [], ◌∷◌, ◌++◌, length, map, take, refl, sym, ◌∙◌, ap, subst, append_assoc, length-append, arith}
 use Rattle.std.proofs.lemmas.List.{map-append}
 use Rattle.std.proofs.lemmas.List.Elements.{All-push, All-nil, All-head, All-tail, All-pop}
 use Rattle.std.specs.List.{All}
@@ -7,19 +7,20 @@ use Rattle.std.specs.Prelude.{Option, Some, None, option_map, IfSome}
 use Rattle.outside_io.specs.declared.host.Unit as unit
 use Rattle.outside_io.specs.declared.host.Unit.TheVariants as units
 use Rattle.outside_io.specs.World.{World, Seen, one_more}
+use Rattle.card_code.specs.declared.lines.Lines.{Lines}
 use Rattle.card_code.specs.declared.lines.LineAnswer.{LineAnswer}
 use Rattle.card_code.specs.declared.lines.LineAnswer.TheVariants as answer
 use Rattle.card_code.specs.Entries.{Entry, Text, behind}
 use Rattle.card_code.specs.LineText.{text_of_line}
-use Rattle.card_code.specs.Reader.{Fronts, NextEntry, IsOneAhead}
+use Rattle.card_code.specs.Reader.{unit_of, lines_handed_out, lines_tally, with_bad_stored, Fronts, NextLine, NextEntry, IsInTurn, IsOneAhead}
+use Rattle.card_code.proofs.LineEntries.{next_moves}
 use Rattle.card_code.proofs.InTurn.{is_ahead}
-use Rattle.read_checks.specs.declared.ReadAs.{ReadAs}
-use Rattle.read_checks.specs.declared.BadCharacter.{BadCharacter}
-use Rattle.read_checks.specs.declared.Tally.{Tally}
-use Rattle.read_checks.specs.Readings.{Reading, counted, bad_in, bad_from, no_bad, with_bad, entry_read, no_lines, with_line, lines_after, AreNumbered}
-use Rattle.read_checks.proofs.OneMore.{counted_more, tally_more, tally_same, numbered_more}
-use Rattle.typewriter.specs.declared.keyboard.Keyboard.{Keyboard}
-use Rattle.typewriter.specs.Keys.{keys_left, IsKeyboardInTurn, HasReadLinesBy, line_taken, HasTaken, TakesReading, read_after, IsNewKeyboard}
+use Rattle.card_code.specs.declared.tally.ReadAs.{ReadAs}
+use Rattle.card_code.specs.declared.tally.BadCharacter.{BadCharacter}
+use Rattle.card_code.specs.declared.tally.Tally.{Tally}
+use Rattle.card_code.specs.Readings.{Reading, counted, bad_in, bad_from, no_bad, with_bad, entry_read, no_lines, with_line, lines_after, AreNumbered}
+use Rattle.card_code.proofs.OneMore.{counted_more, tally_more, tally_same, numbered_more}
+use Rattle.typewriter.specs.Keys.{keys_left, HasReadLinesBy, line_taken, HasTaken, TakesReading, IsNewKeyboard}
 
 -- a reading is one of Keys
 abbrev IsOfKeys : Reading → Type 0
@@ -56,10 +57,11 @@ all_more start readings r (Some es) next is front all =
     rw is (all ∙ ap (λ (left : List Entry). map entry_read readings ++ left) front ∙ entries_more readings r (behind es))
 
 -- A line is taken, or none.
-module _ (start : List Entry) (readings : List Reading) (old new : Keyboard) (before after : Seen) (turn : IsKeyboardInTurn new after.world) (same : new.bad ≡ old.bad) (by : HasReadLinesBy start readings old before.world) where
+module _ (start : List Entry) (readings : List Reading) (old new : Lines) (before after : Seen) (unit_is : unit_of new ≡ unit_of old) (turn : IsInTurn new after.world) (same : lines_tally new ≡ lines_tally old) (by : HasReadLinesBy start readings old before.world) where
   -- where none is, the readings are the same
-  none_taken : new.read ≡ old.read → keys_left new after.world ≡ keys_left old before.world → HasReadLinesBy start readings new after.world
+  none_taken : lines_handed_out new ≡ lines_handed_out old → keys_left new after.world ≡ keys_left old before.world → HasReadLinesBy start readings new after.world
   none_taken read left = record {
+    unit = unit_is ∙ by.unit;
     turn = turn;
     of_keys = by.of_keys;
     numbered = by.numbered;
@@ -68,10 +70,11 @@ module _ (start : List Entry) (readings : List Reading) (old new : Keyboard) (be
     all = subst (λ (told : Option (List Entry)). IfSome told (λ es. start ≡ map entry_read readings ++ es)) (sym left) by.all;
   }
 
-  one_taken : (text : List ℕ) → new.read ≡ one_more old.read → keys_left new after.world ≡ option_map behind (keys_left old before.world) → Fronts (Text text) (keys_left old before.world)
+  one_taken : (text : List ℕ) → lines_handed_out new ≡ one_more (lines_handed_out old) → keys_left new after.world ≡ option_map behind (keys_left old before.world) → Fronts (Text text) (keys_left old before.world)
       → HasReadLinesBy start (readings ++ line_taken new text ∷ []) new after.world
   unfolding bad_from
   one_taken text read left front = record {
+    unit = unit_is ∙ by.unit;
     turn = turn;
     of_keys = All-push IsOfKeys readings (line_taken new text) by.of_keys refl;
     numbered = numbered_more readings (line_taken new text) no_lines by.numbered (read ∙ ap one_more (by.read ∙ sym (keys_lines readings by.of_keys)));
@@ -80,23 +83,23 @@ module _ (start : List Entry) (readings : List Reading) (old new : Keyboard) (be
     all = all_more start readings (line_taken new text) (keys_left old before.world) (keys_left new after.world) left front by.all;
   }
 
-  reading_taken : (u : unit.Unit) (got : LineAnswer) → new.read ≡ read_after got old.read → NextEntry u (keys_left old before.world) (keys_left new after.world) before after got → HasTaken start readings new after.world got
-  reading_taken u (answer.Line line) read entry = one_taken (text_of_line line) read entry.0 entry.1
-  reading_taken u answer.End read entry = none_taken read entry.0
-  reading_taken u (answer.Jam n) read entry = none_taken read entry.0
-  reading_taken u answer.Failed read entry = none_taken read entry.0
+  reading_taken : (u : unit.Unit) (got : LineAnswer) → NextLine old new before after got → NextEntry u (keys_left old before.world) (keys_left new after.world) before after got → HasTaken start readings new after.world got
+  reading_taken u (answer.Line line) read entry = one_taken (text_of_line line) read.number entry.0 entry.1
+  reading_taken u answer.End read entry = none_taken read.stays.number entry.0
+  reading_taken u (answer.Jam n) read entry = none_taken read.stays.number entry.0
+  reading_taken u answer.Failed read entry = none_taken read.stays.number entry.0
 
 -- what the taking adds to the readings
-pub takes_reading : (old new : Keyboard) (before after : Seen) (u : unit.Unit) (got : LineAnswer) → (IsOneAhead old.lines before.world → IsKeyboardInTurn new after.world) → new.bad ≡ old.bad → new.read ≡ read_after got old.read
+pub takes_reading : (old new : Lines) (before after : Seen) (u : unit.Unit) (got : LineAnswer) → (IsOneAhead old before.world → IsInTurn new after.world) → lines_tally new ≡ lines_tally old → NextLine old new before after got
     → NextEntry u (keys_left old before.world) (keys_left new after.world) before after got → TakesReading old new before after got
-takes_reading old new before after u got turn same read entry = λ start readings by.
-    reading_taken start readings old new before after (turn (is_ahead old.lines before.world by.turn)) same by u got read entry
+takes_reading old new before after u got turn same line entry = λ start readings by.
+    reading_taken start readings old new before after (next_moves old new before after got line).unit (turn (is_ahead old before.world by.turn)) same by u got line entry
 
 -- A line that was taken is stored.
-module _ (start : List Entry) (readings : List Reading) (next new : Keyboard) (w : World) (text : List ℕ) (how : ReadAs) (room : ℕ) where
+module _ (start : List Entry) (readings : List Reading) (next new : Lines) (w : World) (text : List ℕ) (how : ReadAs) (room : ℕ) where
   -- the reading of so much of it
   abbrev pub line_stored : Reading
-  line_stored = record { unit = units.Keys; line = next.read; text = text; how = how; room = room }
+  line_stored = record { unit = units.Keys; line = lines_handed_out next; text = text; how = how; room = room }
 
   numbered_so : (earlier : List Reading) (gone : unit.Unit → ℕ) → AreNumbered (earlier ++ line_taken next text ∷ []) gone → AreNumbered (earlier ++ line_stored ∷ []) gone
   unfolding AreNumbered
@@ -108,6 +111,7 @@ module _ (start : List Entry) (readings : List Reading) (next new : Keyboard) (w
   stored_so by =
       let earlier = All-pop IsOfKeys (readings ++ line_taken next text ∷ []) readings (Some (line_taken next text)) refl by.of_keys in
       record {
+        unit = by.unit;
         turn = by.turn;
         of_keys = All-push IsOfKeys readings line_stored earlier.0 refl;
         numbered = numbered_so readings no_lines by.numbered;
@@ -116,18 +120,20 @@ module _ (start : List Entry) (readings : List Reading) (next new : Keyboard) (w
         all = subst (λ (es : List Entry). IfSome (keys_left next w) (λ left. start ≡ es ++ left)) (map-append entry_read readings (line_taken next text ∷ []) ∙ sym (map-append entry_read readings (line_stored ∷ []))) by.all;
       }
 
-  pub reading_stored : new ≡ record next { bad = with_bad (bad_in line_stored) next.bad } → HasReadLinesBy start (readings ++ line_taken next text ∷ []) next w → HasReadLinesBy start (readings ++ line_stored ∷ []) new w
-  reading_stored is by = subst (λ (k : Keyboard). HasReadLinesBy start (readings ++ line_stored ∷ []) k w) (sym is) (stored_so by)
+  pub reading_stored : new ≡ with_bad_stored how (take room text) next → HasReadLinesBy start (readings ++ line_taken next text ∷ []) next w → HasReadLinesBy start (readings ++ line_stored ∷ []) new w
+  reading_stored is by =
+      let of_keys : with_bad_stored how (take room text) next ≡ record next { bad = with_bad (bad_in line_stored) next.bad } = ap (λ (u : unit.Unit). record next { bad = with_bad (bad_from u (lines_handed_out next) how 1 (take room text)) next.bad }) by.unit in
+      subst (λ (k : Lines). HasReadLinesBy start (readings ++ line_stored ∷ []) k w) (sym (is ∙ of_keys)) (stored_so by)
 
 -- the tally stays where none of some is bad
-pub none_taken_up : (k : Keyboard) (bad : List BadCharacter) → bad ≡ [] → k ≡ record k { bad = with_bad bad k.bad }
+pub none_taken_up : (k : Lines) (bad : List BadCharacter) → bad ≡ [] → k ≡ record k { bad = with_bad bad k.bad }
 unfolding with_bad
 none_taken_up k bad none = ap (λ (some : List BadCharacter). record k { bad = with_bad some k.bad }) (sym none)
 
 -- a keyboard that has read nothing
-pub begins : (k : Keyboard) → ((w : World) → IsKeyboardInTurn k w) → k.read ≡ 0 → k.bad ≡ no_bad → IsNewKeyboard k
+pub begins : (k : Lines) → unit_of k ≡ units.Keys → ((w : World) → IsInTurn k w) → lines_handed_out k ≡ 0 → lines_tally k ≡ no_bad → IsNewKeyboard k
 unfolding AreNumbered
-begins k turn read bad = λ start w all. record {
+begins k unit_is turn read bad = λ start w all. record {
   readings = [];
-  by = record { turn = turn w; of_keys = All-nil IsOfKeys; numbered = tt; read = read; tallied = bad; all = all };
+  by = record { unit = unit_is; turn = turn w; of_keys = All-nil IsOfKeys; numbered = tt; read = read; tallied = bad; all = all };
 }

@@ -25,6 +25,8 @@ use Rattle.typewriter.proofs.PairsTyped.{pair_first}
 gone_first : (gone : List ℕ) (t : Trace ℕ ⊤ Stop) (now mid after : Seen) (answer : TypeIo) → Goes now mid (world_after_put units.Typed gone now.world) → Types t mid after answer → Types (does_all gone t) now after answer
 gone_first gone t now mid after io.Done goes rest = record { answers = rest.answers; goes = adds_on now mid after units.Typed gone t.effects goes rest.goes }
 gone_first gone t now mid after (io.Stop s) goes rest = record { answers = rest.answers; goes = adds_on now mid after units.Typed gone t.effects goes rest.goes }
+gone_first gone t now mid after io.NoKeys goes rest = rest
+gone_first gone t now mid after (io.Jam n) goes rest = rest
 gone_first gone t now mid after io.Failed goes rest = record {
   done = length gone + rest.done;
   goes = subst (λ (bytes : List ℕ). Goes now after (world_after_put units.Typed bytes now.world)) (sym (take-append-add gone t.effects rest.done)) (adds_on now mid after units.Typed gone (take rest.done t.effects) goes rest.goes);
@@ -64,6 +66,8 @@ gone_pairs : (gone : List ℕ) (t : Trace Output ⊤ Stop) (panel new_panel : Pa
     → TypesPairs t panel mid new_panel after answer → TypesPairs (does_all (map WritesByte gone) t) panel now new_panel after answer
 gone_pairs gone t panel new_panel now mid after io.Done goes rest = record { answers = rest.answers; puts = put_on units.Typed (map WritesByte gone) t.effects panel panel new_panel now mid after (put_bytes gone panel now mid goes) rest.puts }
 gone_pairs gone t panel new_panel now mid after (io.Stop s) goes rest = record { answers = rest.answers; puts = put_on units.Typed (map WritesByte gone) t.effects panel panel new_panel now mid after (put_bytes gone panel now mid goes) rest.puts }
+gone_pairs gone t panel new_panel now mid after io.NoKeys goes rest = rest
+gone_pairs gone t panel new_panel now mid after (io.Jam n) goes rest = rest
 gone_pairs gone t panel new_panel now mid after io.Failed goes rest = record {
   done = length (map WritesByte gone) + rest.done;
   puts = subst (λ (x : List Output). CarriedOut units.Typed x panel now new_panel after) (sym (take-append-add (map WritesByte gone) t.effects rest.done)) (put_on units.Typed (map WritesByte gone) (take rest.done t.effects) panel panel new_panel now mid after (put_bytes gone panel now mid goes) rest.puts);
@@ -74,6 +78,8 @@ gone_pairs gone t panel new_panel now mid after io.Failed goes rest = record {
 check_on : (t : Trace Output ⊤ Stop) (panel new_panel : Panel) (now after : Seen) (answer : TypeIo) → TypesPairs (does (WritesByte 32) t) (panel_after_pair None panel) now new_panel after answer → TypesPairs (pair_first None t) panel now new_panel after answer
 check_on t panel new_panel now after io.Done rest = record { answers = rest.answers; puts = record { goes = rest.puts.goes; shows = rest.puts.shows } }
 check_on t panel new_panel now after (io.Stop s) rest = record { answers = rest.answers; puts = record { goes = rest.puts.goes; shows = rest.puts.shows } }
+check_on t panel new_panel now after io.NoKeys rest = rest
+check_on t panel new_panel now after (io.Jam n) rest = rest
 check_on t panel new_panel now after io.Failed rest = record { done = suc rest.done; puts = record { goes = rest.puts.goes; shows = rest.puts.shows }; rose = rest.rose }
 
 -- the character of one pair more waits
@@ -112,6 +118,8 @@ pair_failed None old panel new new_panel t now after adds = subst (λ (p : Panel
 pub as_pairs : (line : List ℕ) (r : Result ⊤ Stop) (panel : Panel) (now after : Seen) (answer : TypeIo) → Types (does_all line (ends r)) now after answer → TypesPairs (does_all (map WritesByte line) (ends r)) panel now panel after answer
 as_pairs line r panel now after io.Done typed = record { answers = typed.answers; puts = subst (λ (x : List Output). CarriedOut units.Typed x panel now panel after) (map-append WritesByte line []) (put_bytes (line ++ []) panel now after typed.goes) }
 as_pairs line r panel now after (io.Stop s) typed = record { answers = typed.answers; puts = subst (λ (x : List Output). CarriedOut units.Typed x panel now panel after) (map-append WritesByte line []) (put_bytes (line ++ []) panel now after typed.goes) }
+as_pairs line r panel now after io.NoKeys typed = typed
+as_pairs line r panel now after (io.Jam n) typed = typed
 as_pairs line r panel now after io.Failed typed =
     let same : map WritesByte (take typed.done (line ++ [])) ≡ take typed.done (map WritesByte line ++ []) =
     sym (take-map WritesByte typed.done (line ++ [])) ∙ ap (λ (x : List Output). take typed.done x) (map-append WritesByte line []) in

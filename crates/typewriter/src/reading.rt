@@ -1,36 +1,18 @@
 // Keyboard lines that are read into core.
 ghost use Rattle.std.specs.Prelude.{◌≡◌, ◌<◌, ◌≤◌, ◌+◌, ◌-◌, ◌*◌, ◌/◌, ◌%◌, ℕ, [], length, take, IfOk, false};
-ghost use Rattle.outside_io.specs.declared.host.Unit.TheVariants as units;
 ghost use Rattle.digit_core.specs.Size.{size};
-ghost use Rattle.read_checks.specs.Readings.{bad_from, with_bad};
+ghost use Rattle.card_code.specs.Readings.{bad_from};
+ghost use Rattle.card_code.specs.Reader.{unit_of, lines_handed_out, with_bad_stored, bytes_held, HasWhole, TakesNeeded};
 ghost use Rattle.typewriter.specs.KeyCalls.{ReadsLineBy, ReadsLineAsSaid, line_stored_ending};
 ghost use Rattle.card_code.specs.Feed.{station};
-ghost use Rattle.typewriter.specs.Keys.{read_line_numeric, read_line_alphameric, HoldsLine, AsksNeeded, GoesOnReadingLines};
+ghost use Rattle.typewriter.specs.Keys.{read_line_numeric, read_line_alphameric, NextKeyLine, TakesReading, GoesOnReadingLines};
 
-use crate::keyboard::Keyboard;
+use crate::typing::TypeIo;
 use addr_indirect::Stop;
-use card_code::{LineAnswer, store_digits, store_pairs};
+use card_code::{LineAnswer, Lines, ReadAs, store_digits, store_pairs};
 use digit_core::Core;
 use indicators::Panel;
 use outside_io::Host;
-use read_checks::ReadAs;
-
-/// How an instruction ends that reads from the keyboard.
-///
-/// Source: this project's own.
-#[derive(Clone, Copy, Debug, PartialEq, Eq)]
-pub enum KeyIo {
-    /// It was completed.
-    Done,
-    /// It stopped.
-    Stop(Stop),
-    /// No line was left to be read; nothing was done.
-    NoKeys,
-    /// The line to be read is over 80 bytes; nothing was done. This is its number in the unit Keys, counted from 1.
-    Jam(u64),
-    /// The host failed: its count of faults rose. Nothing was done.
-    Failed,
-}
 
 /// Reads the digits of the keyboard's next line into core from `p` upwards, one digit for each character.
 ///
@@ -40,7 +22,7 @@ pub enum KeyIo {
 /// only where the host's count of faults rose. These three leave core, panel and keyboard as they were.
 ///
 /// The line counts as one that was read, and the bad ones among the characters that were stored of it are tallied, also where the
-/// instruction stops: a character for which there was no room in core is not among them. See [`Keyboard::bad_characters`].
+/// instruction stops: a character for which there was no room in core is not among them. See [`Lines::bad_characters`].
 ///
 /// No line is taken early: the host is asked only while the next line isn't held, so over a pipe a line is answered before the one
 /// behind it is typed. That holds of all that was asked since the keyboard was made, and not of this call alone: as long as only lines
@@ -52,28 +34,29 @@ pub fn read_num<const M: u32, H: Host>(
     core: &mut Core<M>,
     p: u32,
     panel: &mut Panel,
-    keys: &mut Keyboard,
+    keys: &mut Lines,
     host: &mut H,
-) -> KeyIo
+) -> TypeIo
     requires { p < size M }
     ensures reads { let before = station core.old panel.old keys.old (H.seen host.old) in
         let after = station core.new panel.new keys.new (H.seen host.new) in
         ReadsLineBy (read_line_numeric (size M) p) before after result }
-    ensures still { HoldsLine keys.old → H.seen host.new ≡ H.seen host.old }
-    ensures needed { AsksNeeded keys.old (H.seen host.old) (H.seen host.new) }
+    ensures still { HasWhole (bytes_held keys.old) → H.seen host.new ≡ H.seen host.old }
+    ensures needed { TakesNeeded keys.old (H.seen host.old) (H.seen host.new) }
+    ensures unit { unit_of keys.new ≡ unit_of keys.old }
     ensures reads_on { GoesOnReadingLines keys.old keys.new (H.seen host.old) (H.seen host.new) }
     ensures as_said { ReadsLineAsSaid ReadAs.Digit (size M - p) keys.old keys.new (H.seen host.old) (H.seen host.new) result }
 {
-    match keys.next_line(host) {
+    match next_line(keys, host) {
         LineAnswer::Line(line) => {
             let text = line.as_bytes();
             let room = (core.size() - p) as usize;
             let stored = store_digits(core, p, text, panel);
             stored_ending(keys, ReadAs::Digit, text, room, stored, panel)
         }
-        LineAnswer::End => KeyIo::NoKeys,
-        LineAnswer::Jam(number) => KeyIo::Jam(number),
-        LineAnswer::Failed => KeyIo::Failed,
+        LineAnswer::End => TypeIo::NoKeys,
+        LineAnswer::Jam(number) => TypeIo::Jam(number),
+        LineAnswer::Failed => TypeIo::Failed,
     }
 }
 
@@ -90,58 +73,71 @@ pub fn read_alpha<const M: u32, H: Host>(
     core: &mut Core<M>,
     p: u32,
     panel: &mut Panel,
-    keys: &mut Keyboard,
+    keys: &mut Lines,
     host: &mut H,
-) -> KeyIo
+) -> TypeIo
     requires in_core { p < size M }
     requires odd { p % 2 ≡ 1 }
     ensures reads { let before = station core.old panel.old keys.old (H.seen host.old) in
         let after = station core.new panel.new keys.new (H.seen host.new) in
         ReadsLineBy (read_line_alphameric (size M) p) before after result }
-    ensures still { HoldsLine keys.old → H.seen host.new ≡ H.seen host.old }
-    ensures needed { AsksNeeded keys.old (H.seen host.old) (H.seen host.new) }
+    ensures still { HasWhole (bytes_held keys.old) → H.seen host.new ≡ H.seen host.old }
+    ensures needed { TakesNeeded keys.old (H.seen host.old) (H.seen host.new) }
+    ensures unit { unit_of keys.new ≡ unit_of keys.old }
     ensures reads_on { GoesOnReadingLines keys.old keys.new (H.seen host.old) (H.seen host.new) }
     ensures as_said { ReadsLineAsSaid ReadAs.Pair ((size M - (p - 1)) / 2) keys.old keys.new (H.seen host.old) (H.seen host.new) result }
 {
-    match keys.next_line(host) {
+    match next_line(keys, host) {
         LineAnswer::Line(line) => {
             let text = line.as_bytes();
             let room = ((core.size() - (p - 1)) / 2) as usize;
             let stored = store_pairs(core, p - 1, text, panel);
             stored_ending(keys, ReadAs::Pair, text, room, stored, panel)
         }
-        LineAnswer::End => KeyIo::NoKeys,
-        LineAnswer::Jam(number) => KeyIo::Jam(number),
-        LineAnswer::Failed => KeyIo::Failed,
+        LineAnswer::End => TypeIo::NoKeys,
+        LineAnswer::Jam(number) => TypeIo::Jam(number),
+        LineAnswer::Failed => TypeIo::Failed,
     }
+}
+
+// Takes the next line.
+fn next_line<H: Host>(keys: &mut Lines, host: &mut H) -> LineAnswer
+    ensures next { NextKeyLine keys.old keys.new (H.seen host.old) (H.seen host.new) result }
+    ensures still { HasWhole (bytes_held keys.old) → H.seen host.new ≡ H.seen host.old }
+    ensures needed { TakesNeeded keys.old (H.seen host.old) (H.seen host.new) }
+    ensures unit { unit_of keys.new ≡ unit_of keys.old }
+    ensures reading { TakesReading keys.old keys.new (H.seen host.old) (H.seen host.new) result }
+{
+    keys.next_line(host)
 }
 
 // How a reading ends of whose line so much was stored. The bad ones among its first characters, as many as core had room for, are taken up;
 // while 06 is off behind a line that was stored whole, there are none.
 fn stored_ending(
-    keys: &mut Keyboard,
+    keys: &mut Lines,
     how: ReadAs,
     text: &[u8],
     room: usize,
     stored: Result<(), Stop>,
     panel: &Panel,
-) -> KeyIo
+) -> TypeIo
     requires short { length text.now ≤ 80 }
     requires good { IfOk stored (λ _. panel.now.read_check ≡ false
-        → bad_from units.Keys keys.old.read how 1 (take room text.now) ≡ []) }
-    ensures tallied { keys.new ≡ record keys.old { bad = with_bad (bad_from units.Keys keys.old.read how 1 (take room text.now)) keys.old.bad } }
+        → bad_from (unit_of keys.old) (lines_handed_out keys.old) how 1 (take room text.now) ≡ []) }
+    ensures tallied { keys.new ≡ with_bad_stored how (take room text.now) keys.old }
     ensures answer { result ≡ line_stored_ending stored }
 {
+    let first = &text[..text.len().min(room)];
     match stored {
         Ok(()) => {
             if panel.read_check {
-                keys.take_up(how, text, room);
+                keys.take_up(how, first);
             }
-            KeyIo::Done
+            TypeIo::Done
         }
         Err(stop) => {
-            keys.take_up(how, text, room);
-            KeyIo::Stop(stop)
+            keys.take_up(how, first);
+            TypeIo::Stop(stop)
         }
     }
 }

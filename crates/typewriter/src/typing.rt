@@ -19,15 +19,19 @@ use outside_io::{Host, Put, Sent, Unit, write_all};
 // How many characters are typed in one call at most.
 const LINE: usize = 80;
 
-/// How an instruction ends that types.
+/// How an instruction of the typewriter ends. One that types ends in Done, Stop or Failed.
 ///
 /// Source: this project's own.
 #[derive(Clone, Copy, Debug, PartialEq, Eq)]
 pub enum TypeIo {
-    /// All of it was typed.
+    /// It was completed.
     Done,
     /// It stopped.
     Stop(Stop),
+    /// No line of the keyboard was left to be read; nothing was done.
+    NoKeys,
+    /// The line to be read is over 80 bytes; nothing was done. This is its number in the unit Keys, counted from 1.
+    Jam(u64),
     /// The host failed: its count of faults rose.
     Failed,
 }
@@ -131,7 +135,7 @@ pub fn write_alpha<const M: u32, H: Host>(
 /// only where the host's count of faults rose: a first part is typed then.
 ///
 /// Stops: 4 and 5 for a bad cell.
-/// Source: CPU manual, dump numerically.
+/// Source: CPU manual, dump numerically; that it ends with the last digit of core is this project's own.
 pub fn dump<const M: u32, H: Host>(core: &Core<M>, p: u32, host: &mut H) -> TypeIo
     requires { p < size M }
     ensures { Types (write_dump core.now p) (H.seen host.old) (H.seen host.new) result }

@@ -1,9 +1,10 @@
 // A host in memory: it tells everything, and fails where it was told to.
 // Source: this project's own, for tests.
-ghost use Rattle.std.specs.Prelude.{◌≡◌, ◌≢◌, ◌<◌, ◌≤◌, ◌∷◌, ◌++◌, [], ◌||◌, false, true, length, IfOk, OnOk, OnErr};
+ghost use Rattle.std.specs.Prelude.{◌≡◌, ◌≢◌, ◌<◌, ◌≤◌, [], ◌||◌, false, true, length, IfOk, IfSome, OnOk, OnErr};
 ghost use Rattle.std.specs.Option.{option_copied};
 ghost use Rattle.outside_io.specs.declared.host.Unit as unit;
 ghost use Rattle.outside_io.specs.World.{Seen, Rose, Binds, Takes, Puts, ReadsSector, WritesSector, IsFree, IsFresh, with_sector_written, sector_in, pack_sector_text, GainsFile, is_input, is_output, one_more, bind_failed, take_failed, put_failed, drive_failed};
+ghost use Rattle.outside_io.specs.CallCounts.{FailsNowhere, FaultsHaveCauses};
 ghost use Rattle.outside_io.specs.declared.host.TheConstants.{ALL_SECTORS};
 
 use crate::host::SECTOR_LENGTH;
@@ -56,25 +57,27 @@ impl Calls {
 /// A sector of the pack is what was last written to it since the pack's file was bound. Of any other the pack has what the file has, and
 /// nothing where no pack is bound; missing bytes read as the character 0.
 ///
-/// One of its calls fails exactly where its number is in the list of calls that are to fail, or where it is a `put` on an output
-/// whose room is full. Its calls as a `Host` take no memory.
+/// One of its calls fails exactly if its number is in the list of calls that are to fail, or if it is a `put` on an output that has no
+/// room left. Bytes take room also if a binding empties the output later. The host reveals that list and the room that is left, so that
+/// a caller can see by them that no call failed. Its calls as a `Host` take no memory.
 #[derive(Drop)]
 pub struct MemHost {
     files: Files,
     texts: OutputTexts,
     sectors: Sectors,
     calls: Calls,
+    ghost causes: { FaultsHaveCauses texts calls },
 }
 
 impl MemHost {
-    ghost use Rattle.outside_io.specs.Mem.{mem_world, mem_seen, first_seen, pack_of_host, failing_calls, calls_made, room_of_unit, is_listed, HasRoom, Counts, KeepsCalls};
+    ghost use Rattle.outside_io.specs.Mem.{mem_world, mem_seen, first_seen, with_failing_call, pack_of_host, failing_calls, calls_made, room_of_unit, is_listed, HasRoom, Counts, KeepsCalls};
 
     /// A host without files, without calls that are to fail, with no unit in use and nothing written.
     ///
-    /// `room` is how many bytes each output takes; that memory is taken here, and also that of all 80,000 sectors of the pack, about
+    /// `room` is how many bytes each output takes, over all its bindings; that memory is taken here, and also that of all 80,000 sectors of the pack, about
     /// eight million bytes. The error is want of memory.
     pub fn new(alloc: Global, room: usize) -> Result<Self, AllocError>
-        ensures seen { IfOk result (λ host. mem_seen host ≡ first_seen) }
+        ensures seen { IfOk result (λ host. mem_seen host ≡ first_seen room) }
         ensures fresh { IfOk result (λ host. IsFresh (mem_world host)) }
         ensures calls { IfOk result (λ host. (failing_calls host ≡ []) × (calls_made host ≡ 0)) }
         ensures room { IfOk result (HasRoom room) }
@@ -111,9 +114,8 @@ impl MemHost {
     /// All calls of the trait are counted, from 1; the count stands still at 2^64 - 1. The error is want of memory, and all is then as
     /// before.
     pub fn fail(&mut self, call: u64) -> Result<(), AllocError>
-        ensures ok { OnOk result (failing_calls self.new ≡ failing_calls self.old ++ call ∷ []) }
-        ensures err { OnErr result (failing_calls self.new ≡ failing_calls self.old) }
-        ensures seen { mem_seen self.new ≡ mem_seen self.old }
+        ensures ok { OnOk result (mem_seen self.new ≡ with_failing_call call (mem_seen self.old)) }
+        ensures err { OnErr result (mem_seen self.new ≡ mem_seen self.old) }
         ensures fresh { IsFresh (mem_world self.old) → IsFresh (mem_world self.new) }
         ensures calls { calls_made self.new ≡ calls_made self.old }
         ensures room { (u : unit.Unit) → room_of_unit self.new u ≡ room_of_unit self.old u }
@@ -121,6 +123,11 @@ impl MemHost {
         self.calls.failing.push(call)?;
         Ok(())
     }
+
+    /// A law, and no call: if no call is to fail and each output has room, no fault was counted.
+    pub fn fault_law(&self)
+        ensures { IfSome (mem_world self.now).limits (λ l. FailsNowhere l → (mem_seen self.now).faults ≡ 0) }
+    {}
 
     /// What was written to an output, never more than its room.
     pub fn shown(&self, unit: Unit) -> &[u8]
@@ -174,13 +181,14 @@ impl MemHost {
 }
 
 impl Host for MemHost {
-    ghost use Rattle.outside_io.specs.Mem.{mem_seen, is_listed, Counts, IsWithinRoom, is_unit_full};
+    ghost use Rattle.outside_io.specs.Mem.{mem_seen, is_listed, Counts, KeepsFaults, IsWithinRoom, is_unit_full};
 
     ghost seen = { mem_seen };
 
     fn bind(&mut self, unit: Unit, name: &str) -> Bound
         ensures answer { Binds (mem_seen self.old) (mem_seen self.new) unit name.now result }
         ensures fails { bind_failed result ≡ is_listed self.old }
+        ensures calm { is_listed self.old ≡ false → KeepsFaults self.old self.new }
         ensures counts { Counts self.old self.new }
     {
         if self.calls.fails() {
@@ -200,6 +208,7 @@ impl Host for MemHost {
         requires room { 0 < length buf.old }
         ensures answer { Takes (mem_seen self.old) (mem_seen self.new) unit buf.new result }
         ensures fails { take_failed result ≡ is_listed self.old }
+        ensures calm { is_listed self.old ≡ false → KeepsFaults self.old self.new }
         ensures counts { Counts self.old self.new }
     {
         if self.calls.fails() {
@@ -216,6 +225,7 @@ impl Host for MemHost {
         requires some { 0 < length piece.now }
         ensures answer { Puts (mem_seen self.old) (mem_seen self.new) unit piece.now result }
         ensures fails { put_failed result ≡ (is_listed self.old || is_unit_full self.old unit) }
+        ensures calm { is_listed self.old ≡ false → is_unit_full self.old unit ≡ false → KeepsFaults self.old self.new }
         ensures within { IsWithinRoom self.new }
         ensures counts { Counts self.old self.new }
     {
@@ -235,6 +245,7 @@ impl Host for MemHost {
         requires { a < ALL_SECTORS }
         ensures answer { ReadsSector (mem_seen self.old) (mem_seen self.new) a into.new result }
         ensures fails { drive_failed result ≡ is_listed self.old }
+        ensures calm { is_listed self.old ≡ false → KeepsFaults self.old self.new }
         ensures counts { Counts self.old self.new }
     {
         if self.calls.fails() {
@@ -248,6 +259,7 @@ impl Host for MemHost {
         requires { a < ALL_SECTORS }
         ensures answer { WritesSector (mem_seen self.old) (mem_seen self.new) a from.now result }
         ensures fails { drive_failed result ≡ is_listed self.old }
+        ensures calm { is_listed self.old ≡ false → KeepsFaults self.old self.new }
         ensures counts { Counts self.old self.new }
     {
         if self.calls.fails() {

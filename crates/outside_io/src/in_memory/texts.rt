@@ -1,33 +1,41 @@
 // What was written to each unit, in memory that was taken at once.
-ghost use Rattle.std.specs.Prelude.{◌≡◌, ◌≤◌, ◌<◌, ◌++◌, ◌==◌, [], length, take, nat_le, IfOk, vec_capacity};
+ghost use Rattle.std.specs.Prelude.{◌≡◌, ◌+◌, ◌-◌, ◌≤◌, ◌<◌, ◌++◌, ◌==◌, [], length, take, IfOk, vec_capacity};
 ghost use Rattle.outside_io.specs.Rooms.{unit_room};
 ghost use Rattle.outside_io.specs.declared.host.TheConstants.{UNIT_COUNT};
 
 use crate::Unit;
 use std::alloc::{AllocError, Global};
 
-// A text that never grows past its room.
+// A text that never grows past its room, and how much of the room was not used yet.
 #[derive(Drop)]
 pub(crate) struct OutputText {
     room: usize,
+    spare: usize,
     text: Vec<u8>,
     ghost roomy: { room ≤ vec_capacity text },
-    ghost within: { length text.items ≤ room },
+    ghost within: { length text.items + spare ≤ room },
 }
 
 impl OutputText {
     // An empty text with so much room.
     fn new(alloc: Global, room: usize) -> Result<Self, AllocError>
-        ensures { IfOk result (λ output. (output.text.items ≡ []) × (output.room ≡ room)) }
+        ensures text { IfOk result (λ output. output.text.items ≡ []) }
+        ensures room { IfOk result (λ output. output.room ≡ room) }
+        ensures spare { IfOk result (λ output. output.spare ≡ room) }
     {
         let text = Vec::with_capacity(alloc, room)?;
-        Ok(OutputText { room, text })
+        Ok(OutputText {
+            room,
+            spare: room,
+            text,
+        })
     }
 
-    // Empties the text.
+    // Empties the text. The room that its bytes took stays used.
     fn clear(&mut self)
         ensures text { self.new.text.items ≡ [] }
         ensures room { self.new.room ≡ self.old.room }
+        ensures spare { self.new.spare ≡ self.old.spare }
     {
         self.text.clear();
     }
@@ -37,10 +45,12 @@ impl OutputText {
         requires { 0 < length piece.now }
         ensures text { self.new.text.items ≡ self.old.text.items ++ take result piece.now }
         ensures fits { result ≤ length piece.now }
-        ensures full { (result == 0) ≡ nat_le self.old.room (length self.old.text.items) }
+        ensures full { (result == 0) ≡ (self.old.spare == 0) }
         ensures room { self.new.room ≡ self.old.room }
+        ensures spare { self.new.spare ≡ self.old.spare - result }
     {
-        let n = piece.len().min(self.room.saturating_sub(self.text.len()));
+        let n = piece.len().min(self.spare);
+        self.spare -= n;
         match self.text.extend_from_slice(&piece[..n]) {
             Ok(()) => n,
             Err(_) => unreachable!(),
@@ -60,7 +70,7 @@ impl OutputTexts {
 
     // Empty texts, with room for the outputs alone.
     pub(crate) fn new(alloc: Global, room: usize) -> Result<Self, AllocError>
-        ensures { IfOk result (λ texts. AreEmpty room texts) }
+        ensures { IfOk result (AreEmpty room) }
     {
         let mut outputs = Vec::new(alloc);
         for unit in Unit::ALL {

@@ -1,8 +1,8 @@
 // What is asked of the hosts, and of the files that they are over.
 use crate::hosts::fake::Outside;
 use outside_io::{
-    ALL_SECTORS, Bound, Cause, Doing, Drive, Host, Lockable, Put, RealHost, SECTOR_LENGTH, Sent,
-    Take, Trouble, Unit,
+    ALL_SECTORS, Bound, Cause, Doing, Drive, Host, Lockable, Put, RealHost, SECTOR_LENGTH, Take,
+    Trouble, Unit,
 };
 use std::fs;
 use std::io::ErrorKind;
@@ -76,8 +76,6 @@ pub(crate) enum Ask<'a> {
     Write(u32, u8, Drive),
     // A sector is written as it is read.
     Rewrite(u32, Drive),
-    // The job ends.
-    Finish(Sent),
     // The file of this name has this text.
     Holds(&'a str, &'a [u8]),
     // What failed last, if anything.
@@ -124,7 +122,6 @@ where
         Ask::Read(a, front) => reads(host, a, front),
         Ask::Write(a, c, end) => writes(host, a, c, end),
         Ask::Rewrite(a, end) => rewrites(host, a, end),
-        Ask::Finish(end) => host.finish() == end,
         Ask::Holds(name, text) => holds(rt, name, text),
         Ask::Trouble(last) => place_of(host.trouble()) == last,
         Ask::Reason(reason) => is_reason(host.trouble(), reason),

@@ -4,7 +4,7 @@ ghost use Rattle.outside_io.specs.World.{same_unit};
 
 use crate::hosts::asked::{Ask, Reason, answers_all, holds, host_answers, made, outside_answers};
 use crate::hosts::fake::Outside;
-use outside_io::{Bound, Doing, Drive, Host, Put, RealHost, Sent, Take, Unit};
+use outside_io::{Bound, Doing, Drive, Host, Put, RealHost, Take, Unit};
 use std::fs;
 use std::io::ErrorKind;
 use std::os::unix::fs::symlink;
@@ -120,21 +120,20 @@ fn an_old_output_stays_until_its_first_byte(rt: HostRuntime) {
         Ask::Put(Unit::Typed, b"n", Put::Taken(1)),
         Ask::Holds("typed", b"n"),
         Ask::Put(Unit::Typed, b"ew", Put::Taken(2)),
-        Ask::Finish(Sent::Done),
         Ask::Holds("typed", b"new"),
     ];
     assert!(rt; made(&rt, "typed", before));
     assert!(rt; host_answers(&rt, Some((Unit::Typed, "typed", Bound::Yes)), &asks));
 }
 
-// Or where the job ends without a fault. A pack keeps its bytes.
+// Or with the first byte of the report. A pack keeps its bytes.
 #[test]
-fn the_end_of_a_job_empties_an_old_output(rt: HostRuntime) {
+fn the_report_empties_an_old_output(rt: HostRuntime) {
     let before = b"of before".as_slice();
     for (unit, after) in [(Unit::Punched, b"".as_slice()), (Unit::Pack, before)] {
         let asks = [
             Ask::Holds("old", before),
-            Ask::Finish(Sent::Done),
+            Ask::Put(Unit::Report, b"HALT\n", Put::Taken(5)),
             Ask::Holds("old", after),
         ];
         assert!(rt; made(&rt, "old", before));
@@ -190,7 +189,6 @@ fn a_full_device_tells_its_cause(rt: HostRuntime) {
         Ask::Put(Unit::Typed, b"text", Put::Failed),
         Ask::Trouble(Some((Unit::Typed, Doing::Write))),
         Ask::Reason(Reason::System(ErrorKind::StorageFull)),
-        Ask::Finish(Sent::Done),
     ];
     assert!(rt; host_answers(&rt, Some((Unit::Typed, "/dev/full", Bound::Yes)), &asks));
 }

@@ -4,7 +4,7 @@ use Rattle.digit_core.specs.Size.{size}
 use Rattle.indicators.specs.declared.Panel.{Panel}
 use Rattle.traces.specs.Change.{Changed}
 use Rattle.card_code.specs.TextIn.{store_pairs}
-use Rattle.read_checks.specs.declared.ReadAs.TheVariants.{Pair}
+use Rattle.card_code.specs.declared.tally.ReadAs.TheVariants.{Pair}
 use Rattle.card_unit.specs.Hopper.{line_read}
 use Rattle.card_unit.proofs.CardsStored.{card_reads}
 use Rattle.card_unit.proofs.CardsTallied.{pairs_good, card_said, goes_on}

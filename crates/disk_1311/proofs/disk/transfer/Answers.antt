@@ -7,7 +7,7 @@ use Rattle.disk_1311.specs.declared.DiskIo.TheVariants as io
 use Rattle.disk_1311.proofs.Checks.{looks_all, same_transfers}
 use Rattle.disk_1311.proofs.Instructions.{transfer_stops, transfer_alarms, transfer_out, transfer_moves}
 use Rattle.disk_1311.proofs.disk.transfer.Goals as goal
-use Rattle.indicators.specs.declared.codes.TheConstants.{DISK_ADDRESS}
+use Rattle.indicators.specs.Codes.{DISK_ADDRESS}
 
 pub returns-in-Err : goal.returns-in-Err
 returns-in-Err g c =

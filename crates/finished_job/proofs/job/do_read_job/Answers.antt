@@ -6,14 +6,13 @@ use Rattle.finished_job.proofs.job.do_read_job.Goals as goal
 
 pub returns : goal.returns
 returns g c =
-    let host = c.finished-status.new.host in
+    let host = c.ibm1620_read-answer.new.host in
     let world = (g.H.Host.seen host.host).world in
     record {
       answer = c.ibm1620_read-answer.result;
-      between = g.H.Host.seen c.ibm1620_read-answer.new.host.host;
       ending = _;
       answers = c.ibm1620_read-answer.ensures;
-      ends = c.finished-status.ensures;
+      ends = refl;
       of_answer = refl;
       asks = refl;
       loses = counted_lost (world.written Punched) host.bytes c.cards-lost_cards.result host.is_bound (world.in_use Punched) host.bound host.counted c.cards-lost_cards.ensures;

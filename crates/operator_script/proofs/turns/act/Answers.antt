@@ -8,7 +8,7 @@ use Rattle.operator_script.proofs.turns.act.Goals as goal
 
 pub returns-in-Start : goal.returns-in-Start
 unfolding state_after_action
-returns-in-Start g c = rw (c.in-Start.is, c.mode_at_start-machine.ensures) (set_made g.row.M _ c.args.machine.now c.args.machine.now.panel _ (g.H.Host.seen c.args.host.now) (λ w h k s. refl), started_sound c.args.machine.now.mode c.requires.mode)
+returns-in-Start g c = rw (c.in-Start.is, c.mode_at_start-machine.ensures) (set_made g.row.M _ c.args.machine.now c.args.machine.now.panel _ _ (g.H.Host.seen c.args.host.now) (λ w h k s. refl), started_sound c.args.machine.now.mode c.requires.mode)
 
 pub returns-in-Failed : goal.returns-in-Failed
 returns-in-Failed g c = record { is = c.in-Load.is; breaks = c.in-Failed.ensures }
@@ -21,13 +21,13 @@ pub returns-in-Switch : goal.returns-in-Switch
 unfolding state_after_action
 returns-in-Switch g c =
     rw c.in-Switch.is
-    (set_made g.row.M _ c.args.machine.now c.set.new.self c.args.machine.now.mode (g.H.Host.seen c.args.host.now) (λ w h k s. ap (λ p. record (state_with g.row.M c.args.machine.now w h k s) { panel = p }) (sym c.set.ensures)), c.requires.mode)
+    (set_made g.row.M _ c.args.machine.now c.set.new.self c.args.machine.now.mode _ (g.H.Host.seen c.args.host.now) (λ w h k s. ap (λ p. record (state_with g.row.M c.args.machine.now w h k s) { panel = p }) (sym c.set.ensures)), c.requires.mode)
 
 pub returns-in-Overflow : goal.returns-in-Overflow
 unfolding state_after_action
 returns-in-Overflow g c =
     rw c.in-Overflow.is (
-      set_made g.row.M _ c.args.machine.now c.set_checks.new.self c.args.machine.now.mode (g.H.Host.seen c.args.host.now)
+      set_made g.row.M _ c.args.machine.now c.set_checks.new.self c.args.machine.now.mode _ (g.H.Host.seen c.args.host.now)
           (λ w h k s. ap (λ p. record (state_with g.row.M c.args.machine.now w h k s) { panel = p }) (sym (c.set_checks.ensures ∙ ap (λ b. with_checks c.in-Overflow.stops b c.args.machine.now.panel) c.checks-overflow.ensures.io))),
       c.requires.mode,
     )
@@ -36,7 +36,7 @@ pub returns-in-InOut : goal.returns-in-InOut
 unfolding state_after_action
 returns-in-InOut g c =
     rw c.in-InOut.is (
-      set_made g.row.M _ c.args.machine.now c.set_checks-in-InOut.new.self c.args.machine.now.mode (g.H.Host.seen c.args.host.now)
+      set_made g.row.M _ c.args.machine.now c.set_checks-in-InOut.new.self c.args.machine.now.mode _ (g.H.Host.seen c.args.host.now)
           (λ w h k s. ap (λ p. record (state_with g.row.M c.args.machine.now w h k s) { panel = p }) (sym (c.set_checks-in-InOut.ensures ∙ ap (λ b. with_checks b c.in-InOut.stops c.args.machine.now.panel) c.checks-overflow-in-InOut.ensures.overflow))),
       c.requires.mode,
     )
@@ -45,7 +45,7 @@ pub returns-in-Flip : goal.returns-in-Flip
 unfolding state_after_action
 returns-in-Flip g c =
     rw c.in-Flip.is (
-      core_made g.row.M _ c.args.machine.now (record c.args.machine.now { core = c.flip.new.self }) (g.H.Host.seen c.args.host.now) refl refl
+      core_made g.row.M _ c.args.machine.now _ (g.H.Host.seen c.args.host.now) refl refl
           (λ w h k s. ap (λ core. record (state_with g.row.M c.args.machine.now w h k s) { core = core }) (sym c.flip.ensures)),
       c.requires.mode,
     )

@@ -1,7 +1,8 @@
 -- The words of one entry after another are put back.
-use Rattle.std.proofs.Common.{◌≡◌, ℕ, ◌-◌, List, drop, length, refl, ◌∙◌, ap, subst, arith}
+use Rattle.std.proofs.Common.{◌≡◌, ℕ, ◌-◌, List, drop, length, ◌∙◌, ap, subst, arith}
 use Rattle.std.specs.Prelude.{slice_get}
 use Rattle.cpu_step.specs.declared.machine.Machine.{Machine}
+use Rattle.cpu_step.proofs.KeyFacts.{shown_again}
 use Rattle.rewind_log.specs.Kept.{Kept}
 use Rattle.rewind_log.specs.Entries.{places_of_entries}
 use Rattle.rewind_log.proofs.Places.{length_places, one_undone, all_undone}
@@ -20,7 +21,7 @@ overflow_sub-last-2 g c =
 pub loop-k-init : goal.loop-k-init
 loop-k-init g c = record {
   is = ap (λ (x : List ℕ). slice_get (places_of_entries g.row.M x c.self.inside.entries.items) c.args.i) c.copy_from.ensures ∙ ap (λ (ks : List Kept). slice_get ks c.args.i) c.self.view_is;
-  others = refl;
+  others = shown_again g.row.M (record c.args.machine.now { core = c.copy_from.new.self }) _;
 }
 
 pub loop-k-preserved : goal.loop-k-preserved
@@ -31,7 +32,7 @@ loop-k-preserved g c =
     record {
       is = one_undone m c.loop-k.machine.core c.undo.new.core es c.loop-k.k c.args.i (slice_get c.args.self.now c.args.i)
           (omega (arith, n, c.len.ensures.len, c.requires, c.loop-k-test.true)) c.undo.ensures c.loop-k.invariant.is;
-      others = ap (λ (x : Machine m). record x { core = c.undo.new.core }) c.loop-k.invariant.others;
+      others = shown_again m (record c.loop-k.machine { core = c.undo.new.core }) _ ∙ ap (λ (x : Machine m). record x { core = c.undo.new.core }) c.loop-k.invariant.others;
     }
 
 pub stand_at-requires : goal.stand_at-requires

@@ -1,8 +1,13 @@
+use Rattle.std.proofs.Common.{ap}
 use Rattle.outside_io.specs.declared.host.Unit.TheVariants as units
 use Rattle.sps_pass_two.specs.Kept.{IsPiece, IsRunBelow}
+use Rattle.sps_listing.specs.Texts.{image_text}
 use Rattle.sps_listing.proofs.ImageLines.{one_piece, no_piece, piece_at}
-use Rattle.sps_listing.proofs.Sending.{more_sent, cut_off, all_sent, left_as}
+use Rattle.sps_listing.proofs.Sending.{begins_as, more_sent, cut_off, all_sent, left_as}
 use Rattle.sps_listing.proofs.image.image_text.Goals as goal
+
+pub loop-piece-init : goal.loop-piece-init
+loop-piece-init g c = begins_as _ units.Image _ _ (ap image_text c.as_slice-piece-items.ensures)
 
 pub write_piece-requires : goal.write_piece-requires
 write_piece-requires g c = record {

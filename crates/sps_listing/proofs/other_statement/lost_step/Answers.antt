@@ -11,7 +11,7 @@ pub loop-line-init : goal.loop-line-init
 loop-line-init c = rw (c.new-walk.ensures, c.in_ok-symbols.ensures.symbols) (begins _ (lost_in c.args.head c.args.part.now (symbols_of c.args.source.now)) c.args.source.now)
 
 pub loop-line-smaller : goal.loop-line-smaller
-loop-line-smaller c = passed_less _ _ _ (passed _ _ _ c.in-Some.ensures.steps c.pass.new.self _ c.scan-s.ensures.is c.pass.ensures)
+loop-line-smaller c = passed_less _ _ _ (passed _ _ _ c.in-Some.ensures.steps c.pass.new.self _ (ap statement_text c.of.ensures ∙ c.scan-s.ensures.is) c.pass.ensures)
 
 pub returns-then-suffices : goal.returns-then-suffices
 returns-then-suffices c =
@@ -41,7 +41,7 @@ loop-line-preserved c =
     let number = a.number_is ∙ sym t.number in
     let head = a.head_is ∙ sym (head_stays _ _ _ t _ c.head-head_here.ensures) in
     let ended = a.ended_is ∙ sym (ended_stays _ _ _ t _ c.ended-ended.ensures) in
-    let passes = passed _ _ _ t c.pass.new.self _ c.scan-s.ensures.is c.pass.ensures in
+    let passes = passed _ _ _ t c.pass.new.self _ (ap statement_text c.of.ensures ∙ c.scan-s.ensures.is) c.pass.ensures in
     let steps = statements (state_before_next a.st (statement_of line)) c.pass.new.self.lines in
     let is_lost = lost_is a.st line x.number c.ended-ended.result c.head-head_here.result s c.label_columns-name.result.now number ended head c.scan-s.ensures.is c.label_columns-name.ensures c.has_lost_label-lost.result c.has_lost_label-lost.ensures in
     let symbols = symbols_are a.st line x.number c.ended-ended.result c.head-head_here.result s c.label_columns-name.result.now number ended head c.scan-s.ensures.is c.label_columns-name.ensures c.has_lost_label-lost.result c.loop-line.symbols c.define_lost.new.symbols c.in_ok-define_lost.ensures in

@@ -1,5 +1,6 @@
 use Rattle.std.proofs.Common.{◌∙◌, List, map, refl, sym, ap, arith, Option, option_map}
 use Rattle.std.proofs.lemmas.List.{length-map}
+use Rattle.sps_scan.specs.Statement.{statement_text}
 use Rattle.sps_pass_one.specs.declared.fault.Fault.{Fault}
 use Rattle.sps_pass_one.specs.Layout.{Refusal}
 use Rattle.sps_pass_two.specs.Broken.{statement_and_fault}
@@ -19,7 +20,7 @@ loop-line-init c =
     rw (c.new-walk.ensures, m.cells, m.start, m.placed) (begins _ c.args.positions c.args.source.now c.as_slice-places.result.now refl (c.as_slice-places.ensures ∙ c.in_ok-located.ensures.places))
 
 pub loop-line-smaller : goal.loop-line-smaller
-loop-line-smaller c = passed_less _ _ _ (passed _ _ _ c.in-Some.ensures.steps c.pass.new.self _ c.scan-s.ensures.is c.pass.ensures)
+loop-line-smaller c = passed_less _ _ _ (passed _ _ _ c.in-Some.ensures.steps c.pass.new.self _ (ap statement_text c.of-s.ensures ∙ c.scan-scanned.ensures.is) c.pass.ensures)
 
 pub unreachable-requires : goal.unreachable-requires
 unreachable-requires c = is_some_place _ _ _ _ _ _ c.loop-line.invariant.follows c.in-Some.line.text.now _ c.in-Some.ensures.steps.line c.in_default-places.len_below
@@ -32,7 +33,7 @@ returns-in-Some-worst-clause-is c =
     let ended = ended_stays _ _ _ t _ c.ended-ended.ensures in
     let places = first_place c.loop-line.places.now no_place (omega (arith, c.in-len1-up.len_at_least)) in
     let w = rw (c.in_ok-located.ensures.symbols, c.from-size.ensures, t.number, head, ended) at c.in_ok-outcome.ensures.worst in
-    let r = same_outcome _ _ _ _ _ _ f c.in-Some.line.text.now _ t.line _ _ places _ c.scan-s.ensures.is c.in_ok-outcome.outcome.worst w in
+    let r = same_outcome _ _ _ _ _ _ f c.in-Some.line.text.now _ t.line _ _ places _ (ap statement_text c.of-s.ensures ∙ c.scan-scanned.ensures.is) c.in_ok-outcome.outcome.worst w in
     let here = rw c.in-Some-worst.is at (comes_here _ _ _ _ _ _ f c.in-Some.line.text.now _ t.line _ _ places c.in_ok-outcome.outcome.worst r) in
     rw t.number (ap (λ (r : Option Refusal). option_map statement_and_fault r) (sym here))
 
@@ -42,14 +43,14 @@ loop-line-preserved c =
     let t = c.in-Some.ensures.steps in
     let head = head_stays _ _ _ t _ c.head-head.ensures in
     let ended = ended_stays _ _ _ t _ c.ended-ended.ensures in
-    let passes = passed _ _ _ t c.pass.new.self _ c.scan-s.ensures.is c.pass.ensures in
+    let passes = passed _ _ _ t c.pass.new.self _ (ap statement_text c.of-s.ensures ∙ c.scan-scanned.ensures.is) c.pass.ensures in
     let places = first_place c.loop-line.places.now no_place (omega (arith, c.in-len1-up.len_at_least)) in
     let w = rw (c.in_ok-located.ensures.symbols, c.from-size.ensures, t.number, head, ended) at c.in_ok-outcome.ensures.worst in
     let d = rw (c.in_ok-located.ensures.symbols, c.from-size.ensures, t.number, head, ended) at c.in_ok-outcome.ensures.digits in
-    let r = same_outcome _ _ _ _ _ _ g.follows c.in-Some.line.text.now _ passes.front _ _ places _ c.scan-s.ensures.is c.in_ok-outcome.outcome.worst w in
+    let r = same_outcome _ _ _ _ _ _ g.follows c.in-Some.line.text.now _ passes.front _ _ places _ (ap statement_text c.of-s.ensures ∙ c.scan-scanned.ensures.is) c.in_ok-outcome.outcome.worst w in
     let start = rw (c.in_ok-located.ensures.symbols, head, ended) at c.in_ok-add.ensures.start in
     let placed = rw ended at c.in_ok-add.ensures.placed in
-    let on = goes_on _ _ _ _ _ _ _ _ _ g c.in-Some.line.text.now _ passes.front _ _ places _ c.scan-s.ensures.is c.in_ok-outcome.outcome.worst r c.in_default-worst.is c.in_ok-outcome.outcome.digits.items d _ start _ placed _ c.in_ok-add.ensures.cells in
+    let on = goes_on _ _ _ _ _ _ _ _ _ g c.in-Some.line.text.now _ passes.front _ _ places _ (ap statement_text c.of-s.ensures ∙ c.scan-scanned.ensures.is) c.in_ok-outcome.outcome.worst r c.in_default-worst.is c.in_ok-outcome.outcome.digits.items d _ start _ placed _ c.in_ok-add.ensures.cells in
     rw passes.behind on
 
 pub returns-in-Some-end_faults-clause-is : goal.returns-in-Some-end_faults-clause-is

@@ -1,4 +1,4 @@
-use Rattle.std.proofs.Common.{◌≡◌, ◌≢◌, ℕ, ◌-◌, ◌<◌, ◌≤◌, false, List, [], ◌++◌, length, take, drop, refl, ap, arith, length-append}
+use Rattle.std.proofs.Common.{◌≡◌, ◌≢◌, ℕ, ◌-◌, ◌<◌, ◌≤◌, false, List, [], ◌++◌, length, take, drop, refl, ◌∙◌, ap, arith, length-append}
 use Rattle.std.specs.Bool.{◌==◌}
 use Rattle.std.proofs.lemmas.List.{length-take}
 use Rattle.std.proofs.lemmas.Bool.Decides.{nat_tests}
@@ -7,7 +7,7 @@ use Rattle.card_code.specs.Reader.{bytes_held, takes_none}
 use Rattle.card_code.specs.declared.lines.LineAnswer.TheVariants as answer
 use Rattle.card_code.proofs.Readers.{start_ends, held_ends, more_ends, reads_start, reads_held, reads_more, next_end, next_over, over_held, piece_whole, nil_from_length, ended_empty, ended_last, read_failed, short}
 use Rattle.card_code.proofs.WholeHeld.{needs_got, needs_end, needs_failed, none_whole, still_held}
-use Rattle.card_code.proofs.InTurn.{turn_starts, turn_got, turn_end, turn_over, turn_ended, turn_last, turn_failed}
+use Rattle.card_code.proofs.InTurn.{turn_starts, turn_got, turn_end, turn_over, turn_ended, turn_last, turn_failed, handed_tally}
 use Rattle.card_code.proofs.LineEntries.{next_entry}
 use Rattle.card_code.proofs.lines.Lines.next_line.Goals as goal
 
@@ -32,7 +32,7 @@ grows now piece n last same over some fits = omega (
 )
 
 pub loop-self-init : goal.loop-self-init
-loop-self-init g c = record { reads = reads_start _ _; some = start_ends _ _; needs = takes_none refl; turn = λ turn. turn_starts c.args.self.now (g.H.Host.seen c.args.host.now).world turn }
+loop-self-init g c = record { reads = reads_start _ _; some = start_ends _ _; needs = takes_none refl; turn = λ turn. turn_starts c.args.self.now (g.H.Host.seen c.args.host.now).world turn; tally = refl }
 
 pub returns-then-hold_more-clause-line : goal.returns-then-hold_more-clause-line
 returns-then-hold_more-clause-line g c = next_end _ _ _ _ _ c.loop-self.invariant.reads _ c.hold_more.ensures _ _ c.if-hold_more.true c.hand_out.ensures
@@ -61,6 +61,7 @@ loop-self-preserved g c =
       some = more_ends _ now _ _ held _ refl refl _ c.take.new.buf c.in-Got.n (piece_whole now.held.items c.take.new.buf now.piece c.in-Got.n now.start now.end over) c.in-Got.ensures some;
       needs = needs_got _ now _ _ _ held (none_whole now over room) some c.take.new.buf c.in-Got.n c.in-Got.ensures;
       turn = λ turn. turn_got now _ (g.H.Host.seen c.take.new.self) c.take.new.buf c.in-Got.n c.in-Got.ensures;
+      tally = c.hold_more.ensures.tally ∙ c.loop-self.invariant.tally;
     }
 
 pub returns-then-is_empty-clause-line : goal.returns-then-is_empty-clause-line
@@ -182,3 +183,18 @@ returns-in-Failed-clause-turn g c =
     let room : length now.held.items ≢ 82 = not_full _ c.if-is_full.ensures.value in
     let over : now.start ≡ now.end = over_held _ now c.hold_more.result c.hold_more.ensures c.if-hold_more.false room in
     λ turn. turn_failed now c.take.new.buf ((g.H.Host.seen c.take.new.self).world.asked now.unit) over room
+
+pub returns-then-hold_more-clause-tally : goal.returns-then-hold_more-clause-tally
+returns-then-hold_more-clause-tally g c = handed_tally _ c.hand_out.new.self _ c.hand_out.result c.hand_out.ensures ∙ c.hold_more.ensures.tally ∙ c.loop-self.invariant.tally
+
+pub returns-then-is_full-clause-tally : goal.returns-then-is_full-clause-tally
+returns-then-is_full-clause-tally g c = handed_tally _ c.hand_out-then-is_full.new.self _ c.hand_out-then-is_full.result c.hand_out-then-is_full.ensures ∙ c.hold_more.ensures.tally ∙ c.loop-self.invariant.tally
+
+pub returns-in-End-clause-tally : goal.returns-in-End-clause-tally
+returns-in-End-clause-tally g c = handed_tally _ c.hand_out-in-End.new.self _ c.hand_out-in-End.result c.hand_out-in-End.ensures ∙ c.hold_more.ensures.tally ∙ c.loop-self.invariant.tally
+
+pub returns-then-is_empty-clause-tally : goal.returns-then-is_empty-clause-tally
+returns-then-is_empty-clause-tally g c = c.hold_more.ensures.tally ∙ c.loop-self.invariant.tally
+
+pub returns-in-Failed-clause-tally : goal.returns-in-Failed-clause-tally
+returns-in-Failed-clause-tally g c = c.hold_more.ensures.tally ∙ c.loop-self.invariant.tally

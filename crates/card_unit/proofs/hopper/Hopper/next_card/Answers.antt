@@ -21,6 +21,11 @@ returns-clause-alone g c = λ two.
     let deck = one_of_two (deck_left c.args.self.now (g.H.Host.seen c.args.host.now).world) two in
     stay_on _ _ _ (c.in-AtFront.ensures.alone deck.0) (c.more_behind.ensures.deck.alone (subst (TellsAtLeast 1) (sym c.in-AtFront.ensures.deck.left) deck.1))
 
+pub returns-in-Failed-more_behind-clause-alone : goal.returns-in-Failed-more_behind-clause-alone
+returns-in-Failed-more_behind-clause-alone g c = λ two.
+    let deck = one_of_two (deck_left c.args.self.now (g.H.Host.seen c.args.host.now).world) two in
+    stay_on _ _ _ (c.in-AtFront.ensures.alone deck.0) (c.more_behind.ensures.deck.alone (subst (TellsAtLeast 1) (sym c.in-AtFront.ensures.deck.left) deck.1))
+
 pub returns-clause-reads : goal.returns-clause-reads
 returns-clause-reads g c = λ start readings had.
     let mid = c.hold.new.self in

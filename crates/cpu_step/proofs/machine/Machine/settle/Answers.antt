@@ -1,6 +1,6 @@
 use Rattle.std.proofs.Common.{refl, sym, ap, ◌∙◌}
 use Rattle.std.specs.Prelude.{Some, None, Ok, Err}
-use Rattle.traces.specs.Break.{StopsBy, Empty, NoKeys, JamsAt}
+use Rattle.card_code.specs.Break.{StopsBy, Empty, NoKeys, JamsAt}
 use Rattle.cpu_step.specs.Act.{Continues, Halts}
 use Rattle.cpu_step.specs.Step.{instruction}
 use Rattle.cpu_step.specs.Machine.{turned_to}

@@ -19,6 +19,6 @@ returns-in-Chained g c =
     let k = c.in-Chained.ensures.comes.to_chained c.in-Chained.row c.in-Chained.fields refl in
     let uses = uses_at c.args.self.now.regs.ir c.in-Chained.ensures.low c.in-Chained.ensures.high in
     let found = found_with c.in-Chained.row uses c.in-Chained.fields.stores in
-    memo_apart g.row.M instruction c.args.self.now c.act.new.self c.look.new.self (g.H.Host.seen c.args.host.now) (g.H.Host.seen c.act.new.host) c.act.result
-    (acts_as g.row.M (act_over c.in-Chained.row c.in-Chained.fields) instruction (record c.args.self.now { memo = c.look.new.self }) c.act.new.self (g.H.Host.seen c.args.host.now) (g.H.Host.seen c.act.new.host)
+    memo_apart g.row.M instruction c.args.self.now c.act.new.self c.look.new.self _ (g.H.Host.seen c.args.host.now) (g.H.Host.seen c.act.new.host) c.act.result
+    (acts_as g.row.M (act_over c.in-Chained.row c.in-Chained.fields) instruction (record c.args.self.now { memo = c.look.new.self; keys_are = _ }) c.act.new.self (g.H.Host.seen c.args.host.now) (g.H.Host.seen c.act.new.host)
     (λ s shown. row_acts g.row.M _ _ s shown _ found (sym k.fetched) (sym k.row_is) ∙ held_act g.row.M _ _ s shown found c.in-Chained.fields k.operands_are) c.act.result c.act.ensures)

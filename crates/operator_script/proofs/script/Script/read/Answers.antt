@@ -2,9 +2,9 @@
 use Rattle.std.proofs.Common.{ℕ, List}
 use Rattle.std.proofs.lemmas.Result.{err_from_is_err_and}
 use Rattle.std.specs.Prelude.{Err}
-use Rattle.line_words.specs.Lines.{ReadsLines}
-use Rattle.line_words.specs.declared.lines.LineFault.{LineFault}
-use Rattle.line_words.specs.declared.lines.LineFault.TheVariants as lines
+use Rattle.operator_script.specs.Lines.{ReadsLines}
+use Rattle.operator_script.specs.declared.lines.LineFault.{LineFault}
+use Rattle.operator_script.specs.declared.lines.LineFault.TheVariants as lines
 use Rattle.operator_script.specs.Script.{line_of, script_of}
 use Rattle.operator_script.specs.Scripts.{ReadsAsScript, script_fault_of}
 use Rattle.operator_script.proofs.script.Script.read.Goals as goal

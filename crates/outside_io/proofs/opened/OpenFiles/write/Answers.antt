@@ -1,4 +1,4 @@
-use Rattle.std.proofs.Common.{◌≡◌, length, arith, rules}
+use Rattle.std.proofs.Common.{◌≡◌, length, refl, arith, rules}
 use Rattle.outside_io.specs.declared.host.TheConstants.{UNIT_COUNT}
 use Rattle.outside_io.proofs.UntoldHosts.{given_below}
 use Rattle.outside_io.proofs.opened.OpenFiles.write.Goals as goal
@@ -13,4 +13,4 @@ pub bounds-self-place : goal.bounds-self-place
 bounds-self-place g c = given_below _ _ c.place-place.ensures.place
 
 pub returns-in-Some : goal.returns-in-Some
-returns-in-Some g c = c.write.ensures
+returns-in-Some g c = record { fits = c.write.ensures; old = refl }

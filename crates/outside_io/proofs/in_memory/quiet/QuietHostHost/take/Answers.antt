@@ -13,8 +13,8 @@ returns-in-0 c =
       empty = c.take.ensures.none empty;
       goes = record {
         later = omega arith;
-        world = gives_world c.args.self.now.files c.take.new.self c.args.unit c.take.new.buf c.take.result nothing None None refl c.take.ensures
-            ∙ ap (λ (n : ℕ). world_after_take c.args.unit (one_reading (take n c.take.new.buf)) (world_of c.args.self.now.files nothing None)) empty;
+        world = gives_world c.args.self.now.files c.take.new.self c.args.unit c.take.new.buf c.take.result nothing None None None None refl refl c.take.ensures
+            ∙ ap (λ (n : ℕ). world_after_take c.args.unit (one_reading (take n c.take.new.buf)) (world_of c.args.self.now.files nothing None None)) empty;
       };
     }
 
@@ -23,5 +23,5 @@ returns-in_default c = record {
   some = omega arith;
   fits = c.take.ensures.fits;
   bytes = gives_bytes c.args.self.now.files c.take.new.self c.args.unit c.take.new.buf c.take.result c.take.ensures;
-  goes = record { later = omega arith; world = gives_world c.args.self.now.files c.take.new.self c.args.unit c.take.new.buf c.take.result nothing None None refl c.take.ensures };
+  goes = record { later = omega arith; world = gives_world c.args.self.now.files c.take.new.self c.args.unit c.take.new.buf c.take.result nothing None None None None refl refl c.take.ensures };
 }
