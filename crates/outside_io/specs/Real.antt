@@ -1,8 +1,9 @@
 -- A host that tells nothing of the bytes.
-use Rattle.std.specs.Prelude.{◌≡◌, ℕ, Bool, false, List, None, slice_index_or}
+use Rattle.std.specs.Prelude.{◌≡◌, ℕ, Bool, false, List, Option, None, slice_index_or}
 use Rattle.outside_io.specs.declared.host.Unit as unit
 use Rattle.outside_io.specs.declared.names.BoundNames.{BoundNames}
 use Rattle.outside_io.specs.declared.real.RealHost.{RealHost}
+use Rattle.outside_io.specs.declared.trouble.Trouble.{Trouble}
 use Rattle.outside_io.specs.World.{World, Seen, place}
 use Rattle.outside_io.specs.Names.{name_of}
 use Rattle.outside_io.specs.Old.{HasNoOldBytes}
@@ -23,7 +24,11 @@ untold bound names = record {
 
 -- the count of faults, and the world, of a host over any files
 abbrev pub real_seen : {R F D : Type 0} → RealHost R F D → Seen
-real_seen host = record { faults = host.faults; world = untold host.bound host.names }
+real_seen host = record { faults = host.faults.count; world = untold host.bound host.names }
+
+-- the last failure of a call, which the host keeps
+abbrev pub last_trouble : {R F D : Type 0} → RealHost R F D → Option Trouble
+last_trouble host = host.faults.last
 
 -- how many sectors of the pack, from the first one on, the host has the memory for while no file is bound to it
 abbrev pub pack_room : {R F D : Type 0} → RealHost R F D → ℕ

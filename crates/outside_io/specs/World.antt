@@ -1,5 +1,5 @@
 -- What a host means, and what its calls do to it.
-use Rattle.std.specs.Prelude.{◌≡◌, ℕ, ◌+◌, ◌-◌, ◌*◌, ◌≤◌, min, Bool, true, false, not, List, [], ◌∷◌, ◌++◌, length, take, drop, replicate, codes, Option, Some, None, option_map, option_and_then, unwrap_or, IfSome, if◌then◌else◌, ◌==◌, nat_le, bytes_eq}
+use Rattle.std.specs.Prelude.{◌≡◌, ℕ, ◌+◌, ◌-◌, ◌*◌, ◌≤◌, min, Bool, true, false, not, List, [], ◌∷◌, ◌++◌, length, take, drop, replicate, codes, Option, Some, None, option_map, option_and_then, unwrap_or, slice_index_or, IfSome, if◌then◌else◌, ◌==◌, nat_le, bytes_eq}
 use Rattle.std.specs.Option.{option_or}
 use Rattle.outside_io.specs.declared.host.Unit as unit
 use Rattle.outside_io.specs.declared.host.Unit.TheVariants.{Source, Object, Image, Deck, Data, Keys, Script, Commands, Pack, Punched, Typed, Listing, Made, Report}
@@ -35,6 +35,10 @@ place Typed = 10
 place Listing = 11
 place Made = 12
 place Report = 13
+
+-- no unit has its mark, in marks by the units' places
+abbrev pub IsUnmarked : List Bool → Type 0
+IsUnmarked marks = (u : unit.Unit) → slice_index_or marks (place u) false ≡ false
 
 -- the unit's word, its name in small letters
 abbrev pub unit_word : unit.Unit → List ℕ

@@ -1,5 +1,6 @@
 // The files that units are bound to: how each is opened, which file it is, and whether its old bytes are still to go.
-ghost use Rattle.std.specs.Prelude.{◌≡◌, ◌≤◌, length, IfOk, OnOk};
+ghost use Rattle.std.specs.Prelude.{◌≡◌, ◌≤◌, length, false, IfOk, OnOk};
+ghost use Rattle.outside_io.specs.World.{IsUnmarked};
 ghost use Rattle.outside_io.specs.declared.host.Unit.TheVariants.{Report};
 
 use crate::host::UNIT_COUNT;
@@ -80,13 +81,16 @@ fn open_to_read<R: Files>(rt: &R, name: &str) -> io::Result<R::File> {
 }
 
 // By the place of each unit: its file and which file that is, none where the unit is not bound, and whether the file is an output's that
-// was given no byte yet, so that the bytes of before still stand in it; and whether it is a regular file that was read to its end.
+// was given no byte yet, so that it still has the bytes of before; and whether it is a regular file that was read to its end. After all old
+// bytes were taken away they are not looked for again, until a file is bound.
 #[derive(Drop)]
 pub(crate) struct OpenFiles<F> {
     files: [Option<F>; UNIT_COUNT],
     identities: [Option<Identity>; UNIT_COUNT],
     is_old: [bool; UNIT_COUNT],
     is_read: [bool; UNIT_COUNT],
+    may_be_old: bool,
+    ghost emptied: { may_be_old ≡ false → IsUnmarked is_old },
 }
 
 impl<F: Read + Write + OpenFile + Lockable + Drop> OpenFiles<F> {
@@ -99,6 +103,7 @@ impl<F: Read + Write + OpenFile + Lockable + Drop> OpenFiles<F> {
             identities: [None; UNIT_COUNT],
             is_old: [false; UNIT_COUNT],
             is_read: [false; UNIT_COUNT],
+            may_be_old: true,
         }
     }
 
@@ -133,6 +138,7 @@ impl<F: Read + Write + OpenFile + Lockable + Drop> OpenFiles<F> {
     // Binds a file to the unit. A file without an identity is never emptied.
     fn set(&mut self, unit: Unit, file: F, identity: Option<Identity>) {
         let place = unit.place();
+        self.may_be_old = true;
         self.files[place] = Some(file);
         self.identities[place] = identity;
         self.is_old[place] = unit.is_output() && identity.is_some();
@@ -186,7 +192,8 @@ impl<F: Read + Write + OpenFile + Lockable + Drop> OpenFiles<F> {
         ensures { OnOk result (unit ≡ Report → HasNoOldBytes self.new) }
     {
         match unit {
-            Unit::Report => self.empty_all(),
+            Unit::Report if self.may_be_old => self.empty_all(),
+            Unit::Report => Ok(()),
             _ => self.empty(unit),
         }
     }
@@ -214,6 +221,7 @@ impl<F: Read + Write + OpenFile + Lockable + Drop> OpenFiles<F> {
         for unit in Unit::ALL {
             self.empty(unit)?;
         }
+        self.may_be_old = false;
         Ok(())
     }
 

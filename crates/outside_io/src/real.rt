@@ -1,18 +1,18 @@
 // The host over real files and the standard output: it tells nothing of the bytes.
 // Source: this project's own.
-ghost use Rattle.std.specs.Prelude.{◌≡◌, ◌≤◌, ◌<◌, length, false, true, IfOk, IfSome};
+ghost use Rattle.std.specs.Prelude.{◌≡◌, ◌≤◌, ◌<◌, length, false, true, None, option_copied, IfOk, IfSome};
 ghost use Rattle.outside_io.specs.World.{IsFree, IsUnnamed, Fails, Binds, Takes, Puts, ReadsSector, WritesSector, is_input, is_output, put_failed};
-ghost use Rattle.outside_io.specs.Real.{real_seen, pack_room, TellsNothing, IsAllEmptied};
+ghost use Rattle.outside_io.specs.Real.{real_seen, last_trouble, pack_room, TellsNothing, IsAllEmptied};
 ghost use Rattle.outside_io.specs.Old.{HasNoOldBytes};
 ghost use Rattle.outside_io.specs.declared.host.TheConstants.{ALL_SECTORS};
 ghost use Rattle.outside_io.specs.declared.host.Unit.TheVariants.{Pack, Report};
 ghost use Rattle.outside_io.specs.declared.host.Drive.TheVariants.{Done};
 
-use crate::host::{SECTOR_LENGTH, UNIT_COUNT, one_more};
+use crate::host::{SECTOR_LENGTH, UNIT_COUNT};
 use crate::names::BoundNames;
 use crate::opened::OpenFiles;
 use crate::scratch::{PackRoom, ScratchPack};
-use crate::trouble::{Cause, Doing, Trouble};
+use crate::trouble::{Cause, Doing, Faults, Trouble};
 use crate::{Bound, Drive, Host, Lockable, Put, Take, Unit, again, pack_file};
 use std::io;
 use std::os::unix::fs::FileExt;
@@ -99,8 +99,7 @@ pub struct RealHost<'a, R: Files> {
     scratch: ScratchPack,
     bound: [bool; UNIT_COUNT],
     names: BoundNames,
-    faults: u64,
-    trouble: Option<Trouble>,
+    faults: Faults,
 }
 
 impl<'a, R: Files + Print + Clock + AllocGlobal> RealHost<'a, R>
@@ -133,14 +132,16 @@ where
             scratch: ScratchPack::new(rt.alloc(), room),
             bound: [false; UNIT_COUNT],
             names: BoundNames::new(),
-            faults: 0,
-            trouble: None,
+            faults: Faults::new(),
         }
     }
 
-    /// The last failure of a call; None if none failed.
-    pub fn trouble(&self) -> Option<&Trouble> {
-        self.trouble.as_ref()
+    /// The last failure of a call; None only if no call failed.
+    pub fn trouble(&self) -> Option<&Trouble>
+        ensures is { option_copied result ≡ last_trouble self.now }
+        ensures none { result ≡ None → (real_seen self.now).faults ≡ 0 }
+    {
+        self.faults.last()
     }
 
     // Counts a fault, and keeps what it was.
@@ -148,8 +149,7 @@ where
         ensures fails { Fails (real_seen self.old) (real_seen self.new) }
         ensures room { pack_room self.new ≡ pack_room self.old }
     {
-        self.faults = one_more(self.faults);
-        self.trouble = Some(trouble);
+        self.faults.add(trouble);
     }
 
     // Whether the unit's bytes go to the standard output.

@@ -1,9 +1,11 @@
 // What the host over files was doing when it failed, and why.
 // Source: this project's own.
-ghost use Rattle.std.specs.Prelude.{◌≡◌};
+ghost use Rattle.std.specs.Prelude.{◌≡◌, ◌≤◌, None, option_copied};
+ghost use Rattle.outside_io.specs.World.{Rose};
 ghost use Rattle.outside_io.specs.declared.trouble.Cause.TheVariants.{System};
 
 use crate::Unit;
+use crate::host::one_more;
 use std::io::Error;
 
 /// What the host over files was doing when it failed.
@@ -65,5 +67,39 @@ impl Trouble {
             doing,
             cause: Cause::System(error),
         }
+    }
+}
+
+// How many calls failed, and what failed last.
+#[derive(Drop)]
+pub(crate) struct Faults {
+    pub(crate) count: u64,
+    last: Option<Trouble>,
+    ghost kept: { last ≡ None → count ≡ 0 },
+}
+
+impl Faults {
+    pub(crate) fn new() -> Self
+        ensures { result.count ≡ 0 }
+    {
+        Faults {
+            count: 0,
+            last: None,
+        }
+    }
+
+    pub(crate) fn last(&self) -> Option<&Trouble>
+        ensures is { option_copied result ≡ self.now.last }
+        ensures none { result ≡ None → self.now.count ≡ 0 }
+    {
+        self.last.as_ref()
+    }
+
+    pub(crate) fn add(&mut self, trouble: Trouble)
+        ensures rose { Rose self.old.count self.new.count }
+        ensures later { self.old.count ≤ self.new.count }
+    {
+        self.count = one_more(self.count);
+        self.last = Some(trouble);
     }
 }

@@ -25,9 +25,14 @@ impl<'s> LookedUp<'s> {
     pub fn of(s: &'s Statement<'s>) -> LookedUp<'s>
         ensures { result.scanned.now ≡ s.now }
     {
+        let operation = if s.operation.is_empty() {
+            None
+        } else {
+            lookup(s.operation)
+        };
         LookedUp {
             scanned: s,
-            operation: lookup(s.operation),
+            operation,
         }
     }
 }

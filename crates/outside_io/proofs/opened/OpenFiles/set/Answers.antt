@@ -9,9 +9,6 @@ offset_bounds-self-place g c = omega (arith, given_below _ _ c.place-place.ensur
 pub listed : goal.listed
 listed g c = let size : length c.args.self.now.files ≡ UNIT_COUNT = search rules in rw size (given_below _ _ c.place-place.ensures.place)
 
-pub way_replace-self : goal.way_replace-self
-way_replace-self g c = given_below _ _ c.place-place.ensures.place
-
 pub offset_bounds-self-place-2 : goal.offset_bounds-self-place-2
 offset_bounds-self-place-2 g c = omega (arith, given_below _ _ c.place-place.ensures.place)
 
