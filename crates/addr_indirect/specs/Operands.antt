@@ -1,4 +1,4 @@
--- Where the operands of an instruction stand: P's units are its digit P6, six past its address, and Q's its digit Q11, eleven past it.
+-- The operands of an instruction: P's units are at P6, its address plus 6, and Q's units at Q11, its address plus 11.
 -- Source: CPU manual, instruction format and immediate instructions.
 use Rattle.std.specs.Prelude.{ℕ, ◌+◌, List, Result}
 use Rattle.addr_indirect.specs.declared.Stop.{Stop}

@@ -9,7 +9,7 @@ use digit_core::Core;
 /// The operand at P, of the instruction at `ir`: [`operand`] from its digit P6.
 ///
 /// The instruction lies in core. The answer is below the size of core.
-/// Stops: those of `operand`.
+/// Stops: as for `operand`.
 /// Source: CPU manual, instruction format.
 #[inline(always)]
 pub fn p_operand<const M: u32>(core: &Core<M>, ir: u32) -> Result<u32, Stop>
@@ -24,7 +24,7 @@ pub fn p_operand<const M: u32>(core: &Core<M>, ir: u32) -> Result<u32, Stop>
 /// The operand at Q: [`operand`] from the instruction's digit Q11.
 ///
 /// The instruction lies in core. The answer is below the size of core.
-/// Stops: those of `operand`.
+/// Stops: as for `operand`.
 /// Source: CPU manual, instruction format.
 #[inline(always)]
 pub fn q_operand<const M: u32>(core: &Core<M>, ir: u32) -> Result<u32, Stop>

@@ -4,7 +4,7 @@ ghost use Rattle.addr_indirect.specs.Twelve.{digits_in, TwelveAreGood};
 
 use digit_core::{Digit, are_decimal, are_good, are_good_at, digit_in, ones_below};
 
-/// The digits of twelve cells, the ten of one word and the lowest two of another, or `None` where one of the twelve holds no digit.
+/// The digits of twelve cells, the ten of one word and the lowest two of another, or `None` if one of the twelve holds no digit.
 ///
 /// The other cells of `high` mean nothing.
 /// Source: CPU manual, instruction format; that it is read by words is this project's own.
@@ -35,7 +35,7 @@ pub fn good_digits(low: u64, high: u64) -> Option<[Digit; 12]>
 // All ten cells of a word.
 const TEN: u64 = 0x0041_0410_4104_1041;
 
-// Whether each of the twelve holds a digit. Where all are decimal, as in most instructions, the shorter test says so.
+// Whether each of the twelve cells holds a digit. The shorter test for decimal digits comes first: most instructions pass it.
 #[inline]
 fn twelve_are_good(low: u64, high: u64) -> bool
     ensures yes { result ≡ true → TwelveAreGood low high }

@@ -1,4 +1,4 @@
-// Sources of any bytes: how they are cut into lines, and which columns of a line are looked at.
+// Sources of any bytes: how they are cut into lines, and which columns of a line matter.
 use crate::sources::{HALT_AND_END, Refused, refusal, source_of};
 use sps_ops::Rule;
 use std::alloc::Global;
@@ -39,7 +39,7 @@ const SOURCES: [(&[u8], Refused); 20] = [
     (b"\tSTART\tH\n", Some((1, Rule::BadColumn))),
 ];
 
-// A comment of so many bytes with small letters in it, how its line ends, and what is said of it.
+// The length of a comment with small letters, in bytes, the end of its line, and its refusal.
 const LENGTHS: [(usize, &[u8], Refused); 7] = [
     (79, b"\n", None),
     (80, b"\n", None),
@@ -50,7 +50,7 @@ const LENGTHS: [(usize, &[u8], Refused); 7] = [
     (80, b"\r\r\n", Some((1, Rule::LongCard))),
 ];
 
-// A column of a card with a halt, and what is said of a small letter there.
+// A column of a card with a halt, and the refusal of a small letter there.
 const COLUMNS: [(usize, Refused); 11] = [
     (1, None),
     (5, None),

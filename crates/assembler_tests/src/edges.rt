@@ -1,4 +1,4 @@
-// Each rule at its edge: sources that just break it, and such that just keep it.
+// Each rule at its edge: sources that just break it, and sources that just keep it.
 use crate::operand_edges::{CONSTANTS_AND_FLAGS, EXPRESSIONS, LENGTHS, PLACES};
 use crate::sources::{HALT_AND_END, Refused, refusal, source_of};
 use sps_ops::Rule;
@@ -6,11 +6,11 @@ use std::alloc::Global;
 use std::process::Abort;
 use std::test::Fail;
 
-// Lines, and what they are refused for.
+// Lines, and their refusal.
 pub(crate) type Row = (&'static [&'static str], Refused);
 
 const LABELS_AND_OPERATIONS: [Row; 40] = [
-    // 1: only columns 6 to 15 and operand parts are looked at
+    // 1: only columns 6 to 15 and operand parts matter
     (&["A     DC  5,'5'"], Some((1, Rule::BadColumn))),
     (&["      TF  a,1"], Some((1, Rule::BadColumn))),
     (&["      TF  1,2,]"], Some((1, Rule::BadColumn))),
@@ -32,7 +32,7 @@ const LABELS_AND_OPERATIONS: [Row; 40] = [
     (&["2A    H"], None),
     (&["12345XH"], None),
     (&["  A2  H"], None),
-    // 4: no multiplication, no division, and none of the declaratives that are left out
+    // 4: no multiplication, no division, and no declarative that the assembler lacks
     (&["      ZZ"], Some((1, Rule::UnknownOperation))),
     (&["      M   1,2"], Some((1, Rule::UnknownOperation))),
     (&["      13  1,2"], Some((1, Rule::UnknownOperation))),
@@ -48,7 +48,7 @@ const LABELS_AND_OPERATIONS: [Row; 40] = [
     (&["          1,2"], Some((1, Rule::UnknownOperation))),
     (&["      26  1,2"], None),
     (&["       TF 1,2"], None),
-    // 5: a label is that of one statement
+    // 5: a label belongs to one statement
     (
         &["A     DS  1", "A     DS  1"],
         Some((2, Rule::DuplicateLabel)),
@@ -88,7 +88,7 @@ const MISSING_OPERANDS: [Row; 25] = [
     (&["      H"], None),
 ];
 
-// The statement that breaks a rule first is named, with the least of its rules.
+// The refusal names the first statement that breaks a rule, with the least of its rules.
 const LEAST: [Row; 15] = [
     (
         &[
@@ -136,7 +136,7 @@ const LEAST: [Row; 15] = [
     ),
 ];
 
-// Sources with an end of their own, or with none.
+// Sources with their own end, or without an end.
 const ENDS: [Row; 38] = [
     // 15: the start is even, and an instruction has room there
     (&["      DEND400"], None),
@@ -157,7 +157,7 @@ const ENDS: [Row; 38] = [
     (&["X     DENDX"], None),
     (&["      DEND*"], None),
     (&["      DS  1", "      DEND*"], Some((2, Rule::BadStart))),
-    // 16: behind the end stand comments and blank lines alone
+    // 16: only comments and blank lines follow the end
     (&["      DEND402", "*A COMMENT", "", "       "], None),
     (&["      DEND402", "      H"], Some((2, Rule::AfterEnd))),
     (
@@ -175,12 +175,12 @@ const ENDS: [Row; 38] = [
         Some((2, Rule::AfterEnd)),
     ),
     (&["      DEND402", "      h"], Some((2, Rule::BadColumn))),
-    // and what stands there has no label
+    // and a label after the end is undefined
     (
         &["      B   LATE", "      DEND402", "LATE  H"],
         Some((1, Rule::UndefinedSymbol)),
     ),
-    // 17: the statement one past the last is named
+    // 17: the refusal names the statement one past the last
     (&[], Some((1, Rule::NoEnd))),
     (&["START H"], Some((2, Rule::NoEnd))),
     (&["*     DEND402"], Some((2, Rule::NoEnd))),
@@ -206,7 +206,7 @@ fn stand(rt: &impl Abort, alloc: Global, rows: &[Row], behind: &[&str]) -> Resul
     Ok(())
 }
 
-// HEAD, and the symbols under it. A START behind these rows is one under no head again, or under the last one.
+// HEAD, and the symbols under it. The START that follows each row is under no head again, or under the last head.
 const HEADS: [Row; 19] = [
     (&["      HEADX", "      HEAD"], None),
     (&["      HEAD1", "      HEAD ,,,REMARK"], None),

@@ -4,7 +4,7 @@ use std::alloc::Global;
 use std::process::Abort;
 use std::test::Fail;
 
-// A source, its image with a line for each piece, how many digits that has, and the start.
+// A source, its image with a line for each piece, how many digits the image has, and the start.
 type ImageRow = (&'static [&'static str], &'static str, u32, u32);
 
 const IMAGES: [ImageRow; 15] = [
@@ -91,7 +91,7 @@ const IMAGES: [ImageRow; 15] = [
         19,
         402,
     ),
-    // nothing is declared where digits are only set aside
+    // digits that are only set aside are not declared
     (
         &[
             "      DS  98",

@@ -6,7 +6,7 @@ use std::alloc::{AllocError, Global};
 use std::process::Abort;
 use std::test::Fail;
 
-// How many comments stand in front, the lines behind them, and what the source is refused for.
+// How many comments come first, the lines after them, and the refusal of the source.
 type Row = (u32, &'static [&'static str], Refused);
 
 const ROWS: [Row; 11] = [
@@ -26,7 +26,7 @@ const ROWS: [Row; 11] = [
         &["START H", "      DENDSTART", "*A COMMENT"],
         Some((20_001, Rule::TooManyStatements)),
     ),
-    // the lesser rules of statement 20,001 come before its number
+    // if statement 20,001 breaks a lesser rule, the refusal names that rule
     (
         19_998,
         &["START H", "      DENDSTART", "      H"],
@@ -42,7 +42,7 @@ const ROWS: [Row; 11] = [
         &["      ZZ", "", ""],
         Some((20_000, Rule::UnknownOperation)),
     ),
-    // it has a label, and what stands behind it has none
+    // the label of statement 20,001 is defined, and later labels are not
     (
         19_999,
         &["      B   LATE", "LATE  H"],
@@ -53,7 +53,7 @@ const ROWS: [Row; 11] = [
         &["      B   LATE", "", "", "LATE  H"],
         Some((19_999, Rule::UndefinedSymbol)),
     ),
-    // the statement one past the last is where an end is missed
+    // the refusal for a missing end names the statement one past the last
     (20_000, &[], Some((20_001, Rule::NoEnd))),
     (20_001, &[], Some((20_001, Rule::TooManyStatements))),
 ];

@@ -3,7 +3,7 @@ use crate::edges::Row;
 use sps_ops::Rule;
 
 pub(crate) const EXPRESSIONS: [Row; 67] = [
-    // 7: terms and signs, and no Q beside a mnemonic that says it
+    // 7: terms and signs, and no Q with a mnemonic that gives it
     (&["      B   A--1"], Some((1, Rule::BadExpression))),
     (&["      B   1*-1"], Some((1, Rule::BadExpression))),
     (&["      B   1+"], Some((1, Rule::BadExpression))),
@@ -40,7 +40,7 @@ pub(crate) const EXPRESSIONS: [Row; 67] = [
     ),
     (&["      TF  START,START"], None),
     (&["A     DSA A,START"], None),
-    // 9: and for some operands that of an earlier statement
+    // 9: and for some operands the label of an earlier statement
     (&["X     DS  X"], Some((1, Rule::LateSymbol))),
     (&["      DS  1,START"], Some((1, Rule::LateSymbol))),
     (&["      DC  START,1"], Some((1, Rule::LateSymbol))),
@@ -86,7 +86,7 @@ pub(crate) const EXPRESSIONS: [Row; 67] = [
     (&["      DDA 0,0,0,100000"], Some((1, Rule::ValueTooLarge))),
     (&["      DDA -1,0,0,0"], Some((1, Rule::ValueTooLarge))),
     (&["      DDA 9,99999,999,99999"], None),
-    // a location of 9,999,800,403 can be used, and one of 19,999,600,404 only be stood at
+    // a statement can be at both 9,999,800,403 and 19,999,600,404, but an expression can use only the first
     (
         &["      DSB 99999,99999", "X     DS  1", "      DORGX-X+500"],
         None,
@@ -131,7 +131,7 @@ pub(crate) const EXPRESSIONS: [Row; 67] = [
 ];
 
 pub(crate) const LENGTHS: [Row; 27] = [
-    // 11: what is declared is at most 50 long, and what is set aside at most 99,999
+    // 11: declared fields are at most 50 long, and fields that are set aside at most 99,999
     (&["      DC  51,1"], Some((1, Rule::BadLength))),
     (&["      DC  0,1"], Some((1, Rule::BadLength))),
     (&["      DC  50,1", "      DC  1,1"], None),
@@ -197,7 +197,7 @@ pub(crate) const CONSTANTS_AND_FLAGS: [Row; 29] = [
 ];
 
 pub(crate) const PLACES: [Row; 31] = [
-    // 14: what is declared lies in core, and in the tables or above them
+    // 14: declared digits lie in core, and in the tables or above them
     (&["      DC  2,7,20000"], Some((1, Rule::OutsideImage))),
     (&["      DC  2,7,19999"], None),
     (&["      DC  2,7,100"], Some((1, Rule::OutsideImage))),
@@ -234,9 +234,9 @@ pub(crate) const PLACES: [Row; 31] = [
         &["      DORG19986", "      DDA 1,2,3,4", "      DORG500"],
         None,
     ),
-    // but what is set aside may lie anywhere
+    // but digits that are set aside may lie anywhere
     (&["      DS  5,3", "      DSB 9,9,99999"], None),
-    // 20: a field of characters begins at an even address, one before its label
+    // 20: a field of characters begins at an even address, one below its label
     (&["      DAS 5,500"], Some((1, Rule::EvenAddress))),
     (&["      DAS 5,501"], None),
     (&["      DAS 5,0"], Some((1, Rule::EvenAddress))),

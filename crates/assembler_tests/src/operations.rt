@@ -1,4 +1,4 @@
-// One statement for every operation, and the digits that it declares. What each mnemonic stands for is told by rows of `call_rows`.
+// Statements of every operation except HEAD, and the digits that they declare. Rows of `call_rows` show the operation of each mnemonic.
 use crate::sources::{digits_text, program_of};
 use instruction_table::{INSTRUCTIONS, OperandUse};
 use std::alloc::Global;
@@ -8,7 +8,7 @@ use std::test::Fail;
 // An operation, its operands, and the digits of the statement.
 type Row = (&'static str, &'static str, &'static str);
 
-// Each mnemonic that says the whole Q.
+// Each mnemonic that gives the whole Q.
 const UNIQUE: [Row; 46] = [
     ("BH", "12345", "461234501100"),
     ("BP", "12345", "461234501100"),
@@ -58,7 +58,7 @@ const UNIQUE: [Row; 46] = [
     ("WDN", "12345", "381234500702"),
 ];
 
-// Operands that are left out, that are negative or are worked out, and flags of their own. The location is 500.
+// Operands that are left out, that are negative or have to be calculated, and flag parts. The location is 500.
 const OPERANDS: [Row; 24] = [
     ("RCTY", "", "340000000102"),
     ("NOP", "", "410000000000"),
@@ -77,7 +77,7 @@ const OPERANDS: [Row; 24] = [
     ("TF", "*+12,*", "260051200500"),
     ("TF", "**2,***-249999", "260100000001"),
     ("TF", "50000+49999,007", "269999900007"),
-    // a flag part stands in place of the flag on Q7
+    // a flag part replaces the flag on Q7
     ("AM", "12345,678,11", "11123450067Q"),
     ("CM", "12345,-678,0", "J4123450067Q"),
     ("14", "1,2,7", "1400001]0002"),
@@ -86,12 +86,12 @@ const OPERANDS: [Row; 24] = [
     ("WNTY", "12345,,10", "3812345001]0"),
     ("H", ",,01234567891011", "MQ]]]]]]]]]]"),
     ("H", ",,1 0 1 1", "4800000000]]"),
-    // a remark stands behind the flag part
+    // a remark follows the flag part
     ("TF", "1,2,,9", "260000100002"),
     ("BH", "1,,,MORE", "460000101100"),
 ];
 
-// Each declarative but DEND, which stands behind every row. The location is 500.
+// Each declarative except HEAD and DEND; a DEND follows every row. The location is 500.
 const DECLARATIVES: [Row; 41] = [
     ("DS", "5", ""),
     ("DS", "5,600", ""),
@@ -100,7 +100,7 @@ const DECLARATIVES: [Row; 41] = [
     ("DAS", "5", ""),
     ("DSB", "5,10", ""),
     ("DORG", "700", ""),
-    // the leftmost digit has a flag, but that of a single one has none
+    // the leftmost digit has a flag, but a single digit has none
     ("DC", "5,12", "]0012"),
     ("DC", "2,12", "J2"),
     ("DC", "1,7", "7"),
@@ -133,7 +133,7 @@ const DECLARATIVES: [Row; 41] = [
     ("DAC", "12, .)+$*-/,(=@", "]0030410131420212324330|"),
     ("DAC", "13,ABCDEFGHIJKLM", "M1424344454647484951525354"),
     ("DAC", "13,NOPQRSTUVWXYZ", "N5565758596263646566676869"),
-    // addresses have a flag on the leftmost digit, and on their units where they are negative
+    // addresses have a flag on the leftmost digit, and on their units if they are negative
     ("DSA", "500", "]0500"),
     ("DSA", "1,-2,99999", "]0001]000KR9999"),
     ("DSA", "*,-*,,4", "]0500]050]"),
@@ -149,7 +149,7 @@ const DECLARATIVES: [Row; 41] = [
     ("DDA", "9,19999,199,99999", "91999919999999"),
 ];
 
-// A statement stands behind a DORG, and before a halt to start at and the end, which is a DEND.
+// Checks a statement after a DORG, and before a halt to start at and the end, which is a DEND.
 fn stands(
     rt: &impl Abort,
     alloc: Global,
@@ -177,7 +177,7 @@ fn stand(rt: &impl Abort, alloc: Global, rows: &[Row], instruction: bool) -> Res
     Ok(())
 }
 
-// Each instruction of the table, by its mnemonic and by its opcode; one with a field in Q has a flag on Q7.
+// Checks each instruction of the table, by its mnemonic and by its opcode; a field in Q has a flag on Q7.
 fn instructions_stand(rt: &impl Abort, alloc: Global) -> Result<(), Fail> {
     for (mnemonic, row) in &INSTRUCTIONS {
         let opcode = row.0;

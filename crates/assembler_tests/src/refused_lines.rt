@@ -1,4 +1,4 @@
-// The statements that short sources are refused for. The first two sources are those of docs/assembler.md.
+// The statements for which short sources are refused. The first two sources are in docs/assembler.md.
 use sps_listing::{RefusedLine, refused_line};
 use sps_ops::Rule;
 use sps_pass_two::{AsmFault, assemble};
@@ -6,7 +6,7 @@ use std::alloc::Global;
 use std::process::Abort;
 use std::test::Fail;
 
-// A source, and what is shown of the statement that it is refused for.
+// A source, and the statement for which it is refused, as it is shown.
 #[derive(Clone, Copy)]
 struct Row {
     source: &'static [u8],
@@ -52,7 +52,7 @@ const FULL: Row = Row {
     bytes: 80,
 };
 
-// The statement that a source is refused for, for a core of 20,000 positions; none where it is accepted.
+// The statement for which a source is refused, for a core of 20,000 positions; None if it is accepted.
 fn refused_of(alloc: Global, source: &[u8]) -> Result<Option<RefusedLine>, AsmFault> {
     match assemble(alloc, source, 20_000) {
         Ok(_) => Ok(None),
@@ -67,7 +67,7 @@ fn refused_of(alloc: Global, source: &[u8]) -> Result<Option<RefusedLine>, AsmFa
     }
 }
 
-// A refused line is that of a row.
+// Checks that a refused line is as in a row.
 fn is_row(rt: &impl Abort, line: &RefusedLine, row: Row) {
     assert!(rt; line.statement == row.statement);
     assert!(rt; line.rule == row.rule);

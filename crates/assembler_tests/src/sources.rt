@@ -1,17 +1,17 @@
-// Sources of a few lines, and what they come to as texts.
+// Sources of a few lines, and their results as texts.
 use card_code::object_char;
 use digit_core::Digit;
 use sps_ops::Rule;
 use sps_pass_two::{AsmFault, Assembled, Image, assemble};
 use std::alloc::{AllocError, Global};
 
-// What stands behind a source that is to have a start and an end.
+// The lines after a source that is to have a start and an end.
 pub(crate) const HALT_AND_END: &[&str] = &["START H", "      DENDSTART"];
 
-// The statement and the rule for which a source is refused; none where it is accepted.
+// The statement and the rule for which a source is refused; None if it is accepted.
 pub(crate) type Refused = Option<(u32, Rule)>;
 
-// Lines that are written from column 6 on: label in columns 6 to 11, operation in 12 to 15, operands from 16 on.
+// The source of lines from column 6 on: label in columns 6 to 11, operation in 12 to 15, operands from 16 on.
 pub(crate) fn source_of(alloc: Global, lines: &[&str]) -> Result<Vec<u8>, AllocError> {
     let mut source = Vec::new(alloc);
     for line in lines {
@@ -22,13 +22,13 @@ pub(crate) fn source_of(alloc: Global, lines: &[&str]) -> Result<Vec<u8>, AllocE
     Ok(source)
 }
 
-// What such lines are assembled to, for a core of 20,000 positions.
+// The program of lines from column 6 on, for a core of 20,000 positions.
 pub(crate) fn program_of(alloc: Global, lines: &[&str]) -> Result<Assembled, AsmFault> {
     let source = source_of(alloc, lines)?;
     assemble(alloc, &source, 20_000)
 }
 
-// What a source is refused for, for a core of 20,000 positions.
+// The refusal of a source, for a core of 20,000 positions.
 pub(crate) fn refusal(alloc: Global, source: &[u8]) -> Result<Refused, AsmFault> {
     match assemble(alloc, source, 20_000) {
         Ok(_) => Ok(None),
@@ -43,7 +43,7 @@ pub(crate) fn refusal(alloc: Global, source: &[u8]) -> Result<Refused, AsmFault>
     }
 }
 
-// The object character of a digit; `?` for one that no cell can hold.
+// The object character of a digit; `?` if no cell can hold it.
 fn character(digit: Digit) -> char {
     if digit.value <= 10 || digit.value == 12 || digit.value == 15 {
         char::from(object_char(digit))

@@ -1,4 +1,4 @@
-// The texts of short sources, over a host in memory.
+// The texts of short sources, written to a host in memory.
 use crate::sources::{program_of, source_of};
 use outside_io::{MemHost, Sent, Unit};
 use sps_listing::{image_text, listing, refusal, short_refusal_line, statement_at};
@@ -46,7 +46,7 @@ const FAR_LISTED: &[u8] = b"\
     00003 9999800415                   X     DS  1\n\
     00004 9999800416                         DENDSTART\n";
 
-// 110 bytes, beside the halt at 00402 of another source.
+// 110 bytes, listed next to the halt at 00402 of another source.
 const LONG_LINE: &[u8] = b"\
     xxxxxxxxxxxxxxxxxxxxxxxxxxxxxxxxxxxxxxxxxxxxxxxxxxxxxxx\
     xxxxxxxxxxxxxxxxxxxxxxxxxxxxxxxxxxxxxxxxxxxxxxxxxxxxxxx\n";
@@ -75,7 +75,7 @@ const SHOWN: &[u8] = b"\
     \x20          DSA A, (B ,,C,D,E,F,G,H,I+\n\
     \x20          DC  3,  1 2 ,402";
 
-// A statement of these, a rule, a part, and what stands behind the statement's number.
+// A statement of these, a rule, a part, and the text after the statement's number.
 const REFUSED: [(u32, Rule, Option<u8>, &str); 28] = [
     // the label, whatever the part
     (2, Rule::BadLabel, None, "03 BadLabel 1+2"),
@@ -93,7 +93,7 @@ const REFUSED: [(u32, Rule, Option<u8>, &str); 28] = [
     (6, Rule::BadConstant, Some(1), "12 BadConstant 1 2"),
     (5, Rule::BadFlags, Some(3), "13 BadFlags C"),
     (6, Rule::EvenAddress, Some(2), "20 EvenAddress 402"),
-    // an empty part, none, and one that no statement has
+    // an empty part, no part, and a part that no statement has
     (5, Rule::BadExpression, Some(2), "07 BadExpression"),
     (3, Rule::UndefinedSymbol, None, "08 UndefinedSymbol"),
     (5, Rule::UndefinedSymbol, Some(10), "08 UndefinedSymbol"),
@@ -102,7 +102,7 @@ const REFUSED: [(u32, Rule, Option<u8>, &str); 28] = [
     (0, Rule::UndefinedSymbol, Some(0), "08 UndefinedSymbol"),
     (7, Rule::UndefinedSymbol, Some(0), "08 UndefinedSymbol"),
     (u32::MAX, Rule::BadLabel, None, "03 BadLabel"),
-    // rules that show nothing
+    // rules that show no text of the statement
     (3, Rule::BadColumn, Some(1), "01 BadColumn"),
     (3, Rule::LongCard, Some(1), "02 LongCard"),
     (3, Rule::MissingOperand, Some(1), "06 MissingOperand"),
@@ -113,7 +113,7 @@ const REFUSED: [(u32, Rule, Option<u8>, &str); 28] = [
     (3, Rule::NoStart, Some(1), "18 NoStart"),
 ];
 
-// The listing of such lines is this text.
+// Checks that the listing of these lines is this text.
 fn is_listed(rt: &impl Abort, alloc: Global, lines: &[&str], want: &[u8]) -> Result<(), Fail> {
     let source = source_of(alloc, lines)?;
     let program = program_of(alloc, lines)?;
@@ -237,7 +237,7 @@ fn the_last_instruction_at_an_address_counts(rt: HostRuntime) -> Result<(), Fail
     let rows = [
         (402, Some(4)),
         (414, Some(2)),
-        // within an instruction, at a constant, and behind all
+        // within an instruction, at a constant, and after all digits
         (403, None),
         (429, None),
         (430, None),

@@ -1,4 +1,4 @@
--- What the calls are given, and what they leave.
+-- The states before and after the calls.
 use Rattle.std.specs.Prelude.{ℕ, ◌≡◌, List, Option, IfSome, Result, Ok, Err}
 use Rattle.std.specs.Option.{option_and_then}
 use Rattle.addr_indirect.specs.declared.Stop.{Stop}
@@ -16,7 +16,7 @@ use Rattle.branch_ops.specs.Branch.{branch_of, branch, branch_over, transmit}
 abbrev pub branch_in : Instr → Option BranchOp
 branch_in i = option_and_then branch_of (opcode i)
 
--- the registers that a branch leaves: IR-2 is what the row makes it, and IR stays; a stop leaves both
+-- the registers that a branch leaves: IR-2 as its row gives it, and IR as before; a stop leaves both as before
 abbrev pub registers_left : Regs → Result Regs Stop → Regs
 registers_left r (Ok next) = record { ir = r.ir; ir2 = next.ir2 }
 registers_left r (Err why) = r
@@ -47,11 +47,11 @@ abbrev pub Carries : BranchOp → Instr → Processor → Processor → Result �
 Carries b i old new result =
     Branches old.core old.panel old.regs (branch b old.core old.regs old.panel i) new.core new.panel new.regs result
 
--- the branch that an instruction is was carried out, where it is one
+-- the instruction was carried out, if it is a branch
 abbrev pub CarriesOut : Instr → Processor → Processor → Result ℕ Stop → Type 0
 CarriesOut i old new result = IfSome (branch_in i) (λ b. Carries b i old new result)
 
--- BT and BTM did what they do over these operands; the panel, which they don't look at, stays
+-- BT or BTM was carried out over these operands; the panel, which they don't use, stays
 abbrev pub Transmits : List ℕ → Regs → ℕ → ℕ → List ℕ → Regs → Result ℕ Stop → Type 0
 Transmits core regs p q new new_regs result =
     (panel : Panel) → Branches core panel regs (transmit core regs p q) new panel new_regs result
@@ -61,12 +61,12 @@ abbrev pub CarriesKnown : BranchOp → BranchOperands → Processor → Processo
 CarriesKnown op o old new result =
     Branches old.core old.panel old.regs (branch_over op o old.core old.regs old.panel) new.core new.panel new.regs result
 
--- a branch by a digit did what it does over P and Q; the panel, which it doesn't look at, stays
+-- a branch by a digit was carried out over P and Q; the panel, which it doesn't use, stays
 abbrev pub GoesByDigit : BranchOp → List ℕ → Regs → ℕ → ℕ → Result ℕ Stop → Type 0
 GoesByDigit op core r p q result =
     (panel : Panel) → Branches core panel r (branch_over op (record { p = p; q = q; code = 0 }) core r panel) core panel r result
 
--- a branch by an indicator did what it does over P, and tested this one
+-- a branch by an indicator was carried out over P, and tested the indicator `code`
 abbrev pub GoesByTest : BranchOp → List ℕ → Panel → Regs → ℕ → ℕ → Panel → ℕ → Type 0
 GoesByTest op core panel r p code new_panel to =
     Branches core panel r (branch_over op (record { p = p; q = 0; code = code }) core r panel) core new_panel r (Ok to)

@@ -10,14 +10,14 @@ use addr_indirect::{Instr, LOWEST_UNITS, Stop, further, immediate_q};
 use digit_core::Core;
 use instruction_table::{MayStore, OperandUse};
 
-/// The operands that an instruction works out: what the column of its row says, once the device is known.
+/// The operands that an instruction works out, by the column of its row and, for some rows, by its device.
 ///
 /// Source: CPU manual, operation codes; that P of 72 and 73 is odd is this project's own.
 #[derive(Clone, Copy, Debug, PartialEq, Eq)]
 pub enum Uses {
     /// P and Q.
     Both,
-    /// P and Q, of which P must be odd.
+    /// P and Q; P must be odd.
     OddBoth,
     /// P, and Q in the instruction itself.
     Immediate,
@@ -29,7 +29,7 @@ pub enum Uses {
     Neither,
 }
 
-/// The operands that an instruction works out, by its column of the table of instructions; `device` where that leaves it to the device.
+/// The operands that an instruction works out, by its column of the table of instructions, or `device` if the column says so.
 ///
 /// Source: CPU manual, operation codes.
 pub fn uses_by(column: OperandUse, device: Uses) -> Uses
@@ -46,19 +46,19 @@ pub fn uses_by(column: OperandUse, device: Uses) -> Uses
     }
 }
 
-/// The operands of an instruction: an address each, 0 where one isn't used.
+/// The operands of an instruction: an address each, 0 if the operand isn't used.
 ///
 /// Source: CPU manual, instruction descriptions.
 #[derive(Clone, Copy, Debug, PartialEq, Eq)]
 pub struct Operands {
     /// The operand at P.
     pub p: u32,
-    /// The operand at Q; where it stands in the instruction itself the address of its Q11.
+    /// The operand at Q; for an immediate Q the address of the instruction's own Q11.
     pub q: u32,
 }
 
 impl Operands {
-    /// Those of a branch, which tests the indicator `code`.
+    /// The operands of a branch that tests the indicator `code`.
     ///
     /// Source: CPU manual, branch instructions.
     #[inline(always)]
@@ -77,7 +77,7 @@ impl Operands {
 pub enum FieldKind {
     /// The operand itself, whose units are the instruction's own Q11.
     Immediate,
-    /// Its address.
+    /// The address of the operand.
     Address,
     /// The units position of a further field: its units digit has a flag, and a chain begins there.
     Chain,
@@ -86,10 +86,10 @@ pub enum FieldKind {
 }
 
 impl FieldKind {
-    /// The operand that a field of this kind with the number `v` holds, of the instruction at `ir`: a chain is followed through this core.
+    /// The operand that a field of this kind with the number `v` holds, for the instruction at `ir`. A chain is followed in core.
     ///
-    /// It is below the size of core. Stops: 3 where the field has no number; 2 where its number is past the end of core, or that of a chain
-    /// below 4; and behind that those of `further`.
+    /// The operand is below the size of core. Stops: 3 if the field has no number; 2 if the number is past the end of core, or
+    /// below 4 for a chain; then as `further`.
     /// Source: CPU manual, indirect addressing; the order of the checks is this project's own.
     #[inline(always)]
     pub fn operand<const M: u32>(self, core: &Core<M>, ir: u32, v: u32) -> Result<u32, Stop>
@@ -119,15 +119,15 @@ impl FieldKind {
     }
 }
 
-/// The fields of an instruction that hold its operands, and the cells that it may store over these. An operand that isn't used is the
+/// The fields of an instruction that hold its operands, and the cells that it may store. An operand that isn't used is the
 /// address 0.
 ///
 /// Source: CPU manual, instruction format and indirect addressing.
 #[derive(Clone, Copy, Debug, PartialEq, Eq)]
 pub struct Fields {
-    /// The number of P's field, 0 to 99,999; 0 where it has none.
+    /// The number of P's field, 0 to 99,999; 0 if it has no number.
     pub p: u32,
-    /// That of Q's.
+    /// The number of Q's field, 0 to 99,999; 0 if it has no number.
     pub q: u32,
     /// What P's field holds.
     pub p_kind: FieldKind,
@@ -140,7 +140,7 @@ pub struct Fields {
 }
 
 impl Fields {
-    /// Those of an instruction that works out the operands `uses`, and may store `stores`.
+    /// The fields of an instruction that works out the operands `uses`, and may store `stores`.
     ///
     /// Source: CPU manual, instruction format and indirect addressing.
     pub fn of(uses: Uses, stores: MayStore, i: &Instr) -> Self
@@ -178,7 +178,7 @@ impl Fields {
         }
     }
 
-    /// Whether a chain begins at one of them.
+    /// Whether a chain begins at one of the fields.
     ///
     /// Source: CPU manual, indirect addressing.
     pub fn is_chained(self) -> bool
@@ -187,7 +187,7 @@ impl Fields {
         matches!(self.p_kind, FieldKind::Chain) || matches!(self.q_kind, FieldKind::Chain)
     }
 
-    /// The operands of the instruction at `ir`, where these are known to be its fields' numbers, or an immediate Q.
+    /// The operands of the instruction at `ir`, if they are known to be its fields' numbers, or an immediate Q.
     ///
     /// `ir` is at most 59,988. Source: CPU manual, immediate instructions.
     #[inline(always)]
@@ -202,10 +202,10 @@ impl Fields {
         Operands { p: self.p, q }
     }
 
-    /// Works out the operands of the instruction at `ir`: P's, and then Q's; only then is P seen to be odd.
+    /// Works out the operands of the instruction at `ir`: first P, then Q; only then P is checked to be odd.
     ///
-    /// They are below the size of core, and those that the instruction has by its digits in core, where these are its fields. Stops: those of
-    /// `FieldKind::operand` at P and then at Q; 9 where P must be odd and isn't.
+    /// The operands are below the size of core. If these fields are the instruction's own, they are its operands by its digits in
+    /// core. Stops: as `FieldKind::operand` at P and then at Q; 9 if P must be odd and isn't.
     /// Source: CPU manual, instruction descriptions; the order of the checks is this project's own.
     #[inline(always)]
     pub fn operands<const M: u32>(self, core: &Core<M>, ir: u32) -> Result<Operands, Stop>
@@ -226,7 +226,7 @@ impl Fields {
     }
 }
 
-// An instruction's field of five digits whose units are its digit number `k`: its number, 0 where it has none, and what it holds.
+// An instruction's field of five digits with its units at digit number `k`: the field's number, 0 if it has none, and its kind.
 fn field(i: &Instr, k: usize) -> (u32, FieldKind)
     requires units { 4 ≤ k }
     requires inside { k < 12 }
@@ -244,7 +244,7 @@ fn field(i: &Instr, k: usize) -> (u32, FieldKind)
     }
 }
 
-// The number of an instruction's five digits from number `k` downwards, where they are decimal.
+// The number of an instruction's five digits from number `k` downwards, if they are decimal.
 #[tactic(auto, unfolding(crate::specs::Fields::part_number))]
 fn number(i: &Instr, k: usize) -> Option<u32>
     requires units { 4 ≤ k }
@@ -259,7 +259,7 @@ fn number(i: &Instr, k: usize) -> Option<u32>
     Some(a + 10 * (b + 10 * (c + 10 * (d + 10 * e))))
 }
 
-// The value of an instruction's digit number `k`, where it's decimal.
+// The value of an instruction's digit number `k`, if it is decimal.
 fn decimal(i: &Instr, k: usize) -> Option<u32>
     requires { k < 12 }
     ensures { result ≡ decimal_part i.now k }

@@ -1,8 +1,8 @@
-//! Branches: where the next instruction stands.
+//! Branches: the address of the next instruction.
 //!
 //! A branch goes to P's operand always or by a test, of a digit in core or of an indicator; else the machine goes on with the next
-//! instruction. Its operands, those that the table of instructions names, are worked out whether or not it is taken. BT and BTM also move a
-//! field to P-1 and keep the next instruction's address in IR-2, to which BB goes back.
+//! instruction. The operands that the table of instructions names for it are worked out, whether or not it is taken. BT and BTM
+//! also move a field to P-1 and keep the next instruction's address in IR-2, to which BB goes back.
 //!
 //! The operands of all other instructions are worked out in the same way, from the fields of their own digits: the machine does it by these
 //! calls too.
@@ -23,13 +23,13 @@ pub use rows::{BranchOperands, branch, branch_known, tested_code};
 /// Source: CPU manual, instruction register and branch back register.
 #[derive(Clone, Copy, Debug, PartialEq, Eq)]
 pub struct Regs {
-    /// IR: the address of the next instruction; while an instruction is carried out, of that one.
+    /// IR: the address of the next instruction; while an instruction is carried out, its own address.
     pub ir: u32,
-    /// IR-2: the address that BB goes back to. BT and BTM keep the address of the instruction behind them here.
+    /// IR-2: the address that BB goes back to. BT and BTM keep the address of the instruction after them here.
     pub ir2: u32,
 }
 
-/// The branch of an opcode, or `None` where the opcode is none of 17, 27, 42 to 47, 49 and 55.
+/// The branch of an opcode, or `None` if the opcode is not 17, 27, 42 to 47, 49 or 55.
 ///
 /// Source: CPU manual, operation codes.
 pub fn branch_of(code: u8) -> Option<BranchOp>

@@ -17,11 +17,11 @@ use instruction_table::{BranchOp, InstructionRow, MayStore, OperandUse, instruct
 
 /// Carries a branch out, and gives the address of the next instruction: P's operand, IR-2, or `regs.ir + 12`.
 ///
-/// It is for callers from outside: the machine has worked the operands out by then, and calls [`branch_known`].
+/// The machine itself doesn't call it: it has worked out the operands already, and calls [`branch_known`].
 /// `instr` was fetched from this core at `regs.ir`, and its opcode is 17, 27, 42 to 47, 49 or 55. 17 and 27 move a field and set
-/// `regs.ir2`; 46 and 47 turn the indicator off where a test does so. All else stays, `regs.ir` too: the caller goes on with it.
-/// Stops: those of `operand` at P and then at Q, each where the row uses it, whether or not the branch is taken; then those of `read_at`
-/// at the digit that is tested; for 17 and 27, 2 where P is 00000, and then those of `tf`, whose digits moved before stay. After a stop
+/// `regs.ir2`; 46 and 47 turn the indicator off if a test does so. All else stays, and the caller sets `regs.ir` to the answer.
+/// Stops: as `operand` at P and then at Q, if the row uses the operand, whether or not the branch is taken; then as `read_at` at
+/// the digit that is tested; for 17 and 27, 2 if P is 00000, and then as `tf`; digits that were moved before stay. After a stop
 /// `regs` and `panel` are as before.
 /// Source: CPU manual, branch instructions; the order of the checks, and that P of 17 and 27 is not 00000, is this project's own.
 pub fn branch<const M: u32>(
@@ -44,7 +44,7 @@ pub fn branch<const M: u32>(
     }
 }
 
-/// The operands of a branch and the indicator that it tests, 0 where it has none.
+/// The operands of a branch and the indicator that it tests, 0 if it tests none.
 ///
 /// Source: CPU manual, branch instructions.
 #[derive(Clone, Copy, Debug, PartialEq, Eq)]
@@ -53,14 +53,14 @@ pub struct BranchOperands {
     pub p: u32,
     /// The operand at Q; for 17 the units of the field, which are the instruction's own Q11.
     pub q: u32,
-    /// The indicator that Q8 Q9 name, 0 where they name none.
+    /// The indicator that Q8 Q9 name, 0 if they name none.
     pub code: u8,
 }
 
-/// Carries a branch out whose operands are known: what [`branch`] does once they are worked out.
+/// Carries out a branch whose operands are known: the part of [`branch`] after the operands are worked out.
 ///
-/// `o` has them: those of the instruction at `regs.ir` that the branch uses, each below the size of core. What changes is as in `branch`.
-/// Stops: those of `branch` that come after its operands.
+/// `o` has the operands that the branch at `regs.ir` uses, each below the size of core. The same things change as in `branch`.
+/// Stops: as `branch` after the operands are worked out.
 /// Source: CPU manual, branch instructions; that P of 17 and 27 is not 00000 is this project's own.
 #[inline(always)]
 pub fn branch_known<const M: u32>(
@@ -92,7 +92,7 @@ pub fn branch_known<const M: u32>(
     }
 }
 
-// The row of each branch: its operands are worked out, whether or not it is taken, and then it does what it does.
+// The row of each branch: its operands are worked out, whether or not it is taken, and then its action is done.
 fn carry_out<const M: u32>(
     op: BranchOp,
     core: &mut Core<M>,
@@ -133,7 +133,7 @@ fn operands_used(instr: &Instr) -> OperandUse
     }
 }
 
-// The column of a row; what is no instruction uses no operand.
+// The column of a row; an opcode without a row uses no operand.
 fn column_by(row: Option<InstructionRow>) -> OperandUse
     ensures { result ≡ column_by row }
 {
@@ -143,7 +143,7 @@ fn column_by(row: Option<InstructionRow>) -> OperandUse
     }
 }
 
-// The indicator that a branch tests, by its column; 0 where it tests none.
+// The indicator that a branch tests, by its column; 0 if it tests none.
 fn code_by(column: OperandUse, i: &Instr) -> u8
     ensures { result ≡ code_by column i.now }
 {
@@ -153,7 +153,7 @@ fn code_by(column: OperandUse, i: &Instr) -> u8
     }
 }
 
-/// The indicator that Q8 Q9 of an instruction name. Where one of them is over 9 they name none: 00.
+/// The indicator that Q8 Q9 of an instruction name; 0, which is no indicator, if one of them is over 9.
 ///
 /// Source: CPU manual, branch indicator.
 pub fn tested_code(instr: &Instr) -> u8
@@ -162,7 +162,7 @@ pub fn tested_code(instr: &Instr) -> u8
     instr.q8_q9().unwrap_or(0)
 }
 
-// What BT and BTM do: the field at Q moves to P-1, IR-2 keeps the address of the next instruction, and P is gone to.
+// BT, BTM: the field at Q moves to P-1, IR-2 keeps the next instruction's address, and the branch goes to P.
 fn transmit<const M: u32>(core: &mut Core<M>, regs: &mut Regs, p: u32, q: u32) -> Result<u32, Stop>
     requires p { p < size M }
     requires q { q < size M }
@@ -179,7 +179,7 @@ fn transmit<const M: u32>(core: &mut Core<M>, regs: &mut Regs, p: u32, q: u32) -
     Ok(p)
 }
 
-// BD: P is gone to where the value at Q is not 0.
+// BD: the branch goes to P if the value at Q is not 0.
 fn bd<const M: u32>(core: &Core<M>, regs: &Regs, p: u32, q: u32) -> Result<u32, Stop>
     requires { regs.now.ir + 12 ≤ size M }
     ensures { GoesByDigit Bd core.now regs.now p q result }
@@ -189,7 +189,7 @@ fn bd<const M: u32>(core: &Core<M>, regs: &Regs, p: u32, q: u32) -> Result<u32, 
     Ok(go_if(regs, d.value != 0, p))
 }
 
-// BNF: P is gone to where the digit at Q has no flag.
+// BNF: the branch goes to P if the digit at Q has no flag.
 fn bnf<const M: u32>(core: &Core<M>, regs: &Regs, p: u32, q: u32) -> Result<u32, Stop>
     requires { regs.now.ir + 12 ≤ size M }
     ensures { GoesByDigit Bnf core.now regs.now p q result }
@@ -199,7 +199,7 @@ fn bnf<const M: u32>(core: &Core<M>, regs: &Regs, p: u32, q: u32) -> Result<u32,
     Ok(go_if(regs, !d.flag, p))
 }
 
-// BNR: P is gone to where no record mark stands at Q.
+// BNR: the branch goes to P if there is no record mark at Q.
 fn bnr<const M: u32>(core: &Core<M>, regs: &Regs, p: u32, q: u32) -> Result<u32, Stop>
     requires { regs.now.ir + 12 ≤ size M }
     ensures { GoesByDigit Bnr core.now regs.now p q result }
@@ -209,7 +209,7 @@ fn bnr<const M: u32>(core: &Core<M>, regs: &Regs, p: u32, q: u32) -> Result<u32,
     Ok(go_if(regs, d.value != RECORD_MARK, p))
 }
 
-// BNG: P is gone to where no group mark stands at Q.
+// BNG: the branch goes to P if there is no group mark at Q.
 fn bng<const M: u32>(core: &Core<M>, regs: &Regs, p: u32, q: u32) -> Result<u32, Stop>
     requires { regs.now.ir + 12 ≤ size M }
     ensures { GoesByDigit Bng core.now regs.now p q result }
@@ -219,7 +219,7 @@ fn bng<const M: u32>(core: &Core<M>, regs: &Regs, p: u32, q: u32) -> Result<u32,
     Ok(go_if(regs, d.value != GROUP_MARK, p))
 }
 
-// BI: P is gone to where the tested indicator was on.
+// BI: the branch goes to P if the tested indicator was on.
 fn bi(regs: &Regs, panel: &mut Panel, p: u32, code: u8) -> u32
     requires { regs.now.ir + 12 < 2 ^ 32 }
     ensures { (core : List ℕ) → GoesByTest Bi core panel.old regs.now p code panel.new result }
@@ -228,7 +228,7 @@ fn bi(regs: &Regs, panel: &mut Panel, p: u32, code: u8) -> u32
     go_if(regs, on, p)
 }
 
-// BNI: P is gone to where the tested indicator was off.
+// BNI: the branch goes to P if the tested indicator was off.
 fn bni(regs: &Regs, panel: &mut Panel, p: u32, code: u8) -> u32
     requires { regs.now.ir + 12 < 2 ^ 32 }
     ensures { (core : List ℕ) → GoesByTest Bni core panel.old regs.now p code panel.new result }
@@ -237,7 +237,7 @@ fn bni(regs: &Regs, panel: &mut Panel, p: u32, code: u8) -> u32
     go_if(regs, !was_on, p)
 }
 
-// P where the test holds, else the next instruction.
+// P if the test holds, else the address of the next instruction.
 fn go_if(regs: &Regs, test: bool, to: u32) -> u32
     requires { regs.now.ir + 12 < 2 ^ 32 }
     ensures { result ≡ (go_if regs.now test to).ir }

@@ -1,7 +1,7 @@
 // The card reader and punch.
 //
 // - `next|` takes a card from the hopper
-// - `RNCD|P`, `RACD|P`, `WNCD|P`, `WACD|P`, `DNCD|P` reads, punches and dumps; P is odd where pairs are read or punched
+// - `RNCD|P`, `RACD|P`, `WNCD|P`, `WACD|P`, `DNCD|P` reads, punches and dumps; P is odd if pairs are read or punched
 use crate::desk::Desk;
 use crate::lines::{RowLine, place};
 use crate::texts::front;
@@ -9,7 +9,7 @@ use card_unit::{CardAnswer, CardIo, dump, punch_alpha, punch_num, read_alpha, re
 use std::alloc::{AllocError, Global};
 use std::io;
 
-// Reads or punches; None where the line is not known.
+// Reads or punches; None if the line is not known.
 pub(crate) fn call<const M: u32>(desk: &mut Desk<M>, line: &RowLine<'_>) -> Option<CardIo> {
     let (machine, host) = (&mut desk.machine, &mut desk.host);
     let (core, panel) = (&mut machine.core, &mut machine.panel);
@@ -35,7 +35,7 @@ fn columns(alloc: Global, card: &[u8; 80]) -> Result<String, AllocError> {
     front(alloc, card, n)
 }
 
-// Prints the next card of the hopper; false where the line is not known.
+// Prints the next card of the hopper; false if the line is not known.
 pub(crate) fn show<const M: u32>(
     rt: &impl Print,
     desk: &mut Desk<M>,

@@ -1,13 +1,13 @@
-// What is done with the cells of core.
+// Stores and searches in the cells of core.
 //
 // - `table|` stores the standard add table, `tables|` all standard tables
-// - `core|AT|TEXT` stores a text; `flip|AT|BIT` turns a bit of a cell round
-// - `keep|` keeps a copy of core; `takes words|I|END` copies these words from the one that was kept
+// - `core|AT|TEXT` stores a text; `flip|AT|BIT` inverts a bit of a cell
+// - `keep|` keeps a copy of core; `takes words|I|END` copies the words from I up to END from this copy
 // - `copies cells|P|Q|N`
-// - `flag below|A`, `mark above|A`, `first bad|A|B`, `changed words|` from what was kept
-// - `show|AT|N` so many digits, `cell|AT` a cell and the number of its bits, `changed|` what is not as it was kept
+// - `flag below|A`, `mark above|A`, `first bad|A|B`, `changed words|` compared with the kept copy
+// - `show|AT|N` shows N digits, `cell|AT` a cell and its bits as a number, `changed|` the cells that differ from the kept copy
 // - `zero words|` how many words core has, and how many of them are ten zeros
-// - `fills|FROM|TO` whether one digit stands from the one place up to the other, which is not one of them
+// - `fills|FROM|TO` the digit of all cells from FROM up to, but not including, TO; `?` if the digits differ
 use crate::desk::Desk;
 use crate::lines::{RowLine, number, place, two_numbers};
 use card_code::object_char;
@@ -27,7 +27,7 @@ fn store_tables<const M: u32>(core: &mut Core<M>, from: u32) -> Option<()> {
     Some(())
 }
 
-// Turns a bit of a cell round; None where there is no such bit.
+// Inverts a bit of a cell; None if there is no such bit.
 fn turn<const M: u32>(core: &mut Core<M>, line: &RowLine<'_>) -> Option<()> {
     let at = place(core, line.first)?;
     let bit = number(line.second)?;
@@ -50,7 +50,7 @@ fn copy<const M: u32>(core: &mut Core<M>, line: &RowLine<'_>) -> Option<()> {
     Some(())
 }
 
-// Copies words from the core that was kept.
+// Copies words from the kept copy of core.
 fn take_words<const M: u32>(desk: &mut Desk<M>, line: &RowLine<'_>) -> Option<()> {
     let words = desk.kept.size() / 10;
     let i = number(line.first)?;
@@ -62,7 +62,7 @@ fn take_words<const M: u32>(desk: &mut Desk<M>, line: &RowLine<'_>) -> Option<()
     Some(())
 }
 
-// Stores something in core; None where the line is not known.
+// Stores something in core; None if the line is not known.
 pub(crate) fn set<const M: u32>(desk: &mut Desk<M>, line: &RowLine<'_>) -> Option<()> {
     let core = &mut desk.machine.core;
     match line.name {
@@ -91,7 +91,7 @@ fn found<const M: u32>(core: &Core<M>, line: &RowLine<'_>) -> Option<Option<u32>
     }
 }
 
-// The character of a cell's digit; ? where it can't be read.
+// The character of a cell's digit; ? if it can't be read.
 pub(crate) fn char_at<const M: u32>(core: &Core<M>, at: u32) -> char {
     if at >= core.size() {
         return '?';
@@ -116,7 +116,7 @@ fn chars<const M: u32>(
     Ok(text)
 }
 
-// The character that stands at each place from one up to another; ? where there are two.
+// The character of all cells from one place up to another; ? if the characters differ.
 fn filled_with<const M: u32>(core: &Core<M>, from: u32, to: u32) -> char {
     let first = char_at(core, from);
     for at in from..to {
@@ -127,7 +127,7 @@ fn filled_with<const M: u32>(core: &Core<M>, from: u32, to: u32) -> char {
     first
 }
 
-// Prints a cell's digit, or what is wrong with it, and the number of its bits.
+// Prints a cell's digit, or its error, and its bits as a number.
 fn show_cell<const M: u32>(rt: &impl Print, core: &Core<M>, text: &str, at: u32) -> io::Result<()> {
     if at >= core.size() {
         return println!(rt; "{text}|no place");
@@ -139,7 +139,7 @@ fn show_cell<const M: u32>(rt: &impl Print, core: &Core<M>, text: &str, at: u32)
     }
 }
 
-// Whether the cell at a place is as it was kept.
+// Whether the cell at a place is as in the kept copy.
 fn is_kept<const M: u32>(desk: &Desk<M>, at: u32) -> bool {
     let size = desk.machine.core.size();
     let _same = desk.kept.size();
@@ -157,7 +157,7 @@ fn zero_words(words: &[u64]) -> usize {
     count
 }
 
-// Prints the cells that are not as they were kept, those side by side in one line.
+// Prints the cells that differ from the kept copy, adjacent cells in one line.
 fn show_changed<const M: u32>(rt: &impl Print, desk: &Desk<M>) -> io::Result<()> {
     let core = &desk.machine.core;
     let mut from = 0;
@@ -172,7 +172,7 @@ fn show_changed<const M: u32>(rt: &impl Print, desk: &Desk<M>) -> io::Result<()>
     Ok(())
 }
 
-// Prints what stands in core; false where the line is not known.
+// Prints cells of core; false if the line is not known.
 pub(crate) fn show<const M: u32>(
     rt: &impl Print,
     desk: &Desk<M>,

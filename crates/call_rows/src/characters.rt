@@ -1,9 +1,9 @@
-// Characters: of digits and of pairs, those of ten cells at once, and texts that are stored.
+// Characters of digits, of pairs and of ten cells at once, and texts that are stored.
 //
-// - `characters|` shows each byte that is read: the digit as which it is an object character, the one as which it is read, the character
-//   as which that digit is punched, its pair, and the pair's character
-// - `pairs|` how many pairs have a character; `pair|A` the character of the two cells from there
-// - `chars|A` the object characters of the ten cells from there, and those as which they are punched
+// - `characters|` shows each byte that can be read: its digit as an object character, its digit as it is read, the character as which
+//   this digit is punched, the byte's pair, and the pair's character
+// - `pairs|` how many pairs have a character; `pair|A` the character of the two cells from A
+// - `chars|A` the object characters of the ten cells from A, and the characters as which they are punched
 // - `word|A|TEXT` stores ten object characters, `digits|A|TEXT` a text as digits, `alphas|A|TEXT` a text as pairs
 use crate::lines::{RowLine, number, place};
 use addr_indirect::Stop;
@@ -15,7 +15,7 @@ use cpu_step::Machine;
 use digit_core::{Core, Digit};
 use std::io;
 
-// Prints a digit behind a bar, a flagged one with `F`; nothing behind the bar where there is none.
+// Prints a bar and a digit, with `F` before a flagged digit; the bar alone if there is no digit.
 fn show_digit(rt: &impl Print, digit: Option<Digit>) -> io::Result<()> {
     match digit {
         Some(digit) if digit.flag => print!(rt; "|F{}", digit.value),
@@ -24,7 +24,7 @@ fn show_digit(rt: &impl Print, digit: Option<Digit>) -> io::Result<()> {
     }
 }
 
-// Prints what a byte is read as.
+// Prints the digits and the pair of a byte.
 fn show_byte(rt: &impl Print, c: u8) -> io::Result<()> {
     print!(rt; "{c}|{}", char::from(c))?;
     show_digit(rt, object_digit(c))?;
@@ -66,7 +66,7 @@ fn pairs() -> u32 {
     count
 }
 
-// Ten characters, in marks; none where there are none.
+// Prints a bar and ten characters, or `none`.
 fn show_chars(rt: &impl Print, chars: Option<[u8; 10]>) -> io::Result<()> {
     match chars {
         Some(chars) => {
@@ -80,7 +80,7 @@ fn show_chars(rt: &impl Print, chars: Option<[u8; 10]>) -> io::Result<()> {
     }
 }
 
-// Prints what characters are; false where the line is not known.
+// Prints characters; false if the line is not known.
 pub(crate) fn show<const M: u32>(
     rt: &impl Print,
     core: &Core<M>,
@@ -105,7 +105,7 @@ pub(crate) fn show<const M: u32>(
     Ok(true)
 }
 
-// Stores the cells of ten characters; None where they are not ten, or not in core.
+// Stores the cells of ten characters; None if they are not ten, or not in core.
 fn store_word<const M: u32>(core: &mut Core<M>, line: &RowLine<'_>) -> Option<Result<(), Stop>> {
     let size = core.size();
     let at = number(line.first)?;
@@ -122,7 +122,7 @@ fn store_word<const M: u32>(core: &mut Core<M>, line: &RowLine<'_>) -> Option<Re
     }
 }
 
-// Stores a text; None where the line is not known.
+// Stores a text; None if the line is not known.
 pub(crate) fn call<const M: u32>(
     machine: &mut Machine<M>,
     line: &RowLine<'_>,
@@ -138,7 +138,7 @@ pub(crate) fn call<const M: u32>(
     }
 }
 
-// The character of the pair at a place; None where the line is not known.
+// The character of the pair at a place; None if the line is not known, or a cell is bad.
 pub(crate) fn pair<const M: u32>(machine: &mut Machine<M>, line: &RowLine<'_>) -> Option<char> {
     if line.name != "pair" {
         return None;

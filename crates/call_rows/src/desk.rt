@@ -12,17 +12,17 @@ use std::alloc::{AllocError, Global};
 pub(crate) struct Desk<const M: u32> {
     pub(crate) alloc: Global,
     pub(crate) machine: Machine<M>,
-    // Core as it was kept.
+    // The kept copy of core.
     pub(crate) kept: Core<M>,
     pub(crate) host: MemHost,
-    // The bad characters of texts that were taken up, beside those that the machine has read.
+    // The bad characters of texts in the row's lines, apart from those that the machine has read.
     pub(crate) tally: Tally,
     // The source of the row.
     pub(crate) source: Vec<u8>,
 }
 
 impl<const M: u32> Desk<M> {
-    // A machine at power on over what a row is given. The error is want of memory.
+    // A machine at power on, with the files and cards of a row. The error is a lack of memory.
     pub(crate) fn new(given: &Given) -> Result<Desk<M>, AllocError>
         requires { IsSize M }
     {

@@ -1,6 +1,6 @@
 // The disk drives.
 //
-// - `arm|N` all arms stand at that cylinder; `sector|A|TEXT` the sector has that text, whose last character goes on to its end
+// - `arm|N` sets all arms to cylinder N; `sector|A|TEXT` sets sector A to a text, with its last character repeated to the end
 // - `SK|P` seeks; `RDGN|P`, `CDGN|P`, `RDN|P`, `CDN|P`, `WDGN|P`, `WDN|P` moves sectors by the control field at P
 // - `arms|` shows the arms, `sectors|` each sector that is not a hundred zeros, in the form of the line `sector|`
 use crate::desk::Desk;
@@ -11,7 +11,7 @@ use outside_io::{ALL_SECTORS, MemHost};
 use std::alloc::{AllocError, Global};
 use std::io;
 
-// Sets a sector; None where there is no such sector, or no text.
+// Sets a sector; None if there is no such sector, or no text.
 fn set_sector(host: &mut MemHost, line: &RowLine<'_>) -> Option<()> {
     let a = number(line.first)?;
     let text = line.second.as_bytes();
@@ -26,7 +26,7 @@ fn set_sector(host: &mut MemHost, line: &RowLine<'_>) -> Option<()> {
     Some(())
 }
 
-// Sets the arms or a sector; None where the line is not known.
+// Sets the arms or a sector; None if the line is not known.
 pub(crate) fn set<const M: u32>(desk: &mut Desk<M>, line: &RowLine<'_>) -> Option<()> {
     match line.name {
         "arm" => {
@@ -38,7 +38,7 @@ pub(crate) fn set<const M: u32>(desk: &mut Desk<M>, line: &RowLine<'_>) -> Optio
     }
 }
 
-// The transfer of a word.
+// The transfer that a word names.
 fn kind(name: &str) -> Option<DiskKind> {
     match name {
         "RDGN" => Some(DiskKind::Rdgn),
@@ -51,7 +51,7 @@ fn kind(name: &str) -> Option<DiskKind> {
     }
 }
 
-// Seeks, or moves sectors; None where the line is not known.
+// Seeks, or moves sectors; None if the line is not known.
 pub(crate) fn call<const M: u32>(desk: &mut Desk<M>, line: &RowLine<'_>) -> Option<DiskIo> {
     let machine = &mut desk.machine;
     let (core, panel) = (&mut machine.core, &mut machine.panel);
@@ -63,7 +63,7 @@ pub(crate) fn call<const M: u32>(desk: &mut Desk<M>, line: &RowLine<'_>) -> Opti
     Some(transfer(core, at, kind, panel, &machine.arms, &mut desk.host))
 }
 
-// A sector's text, without the characters at its end that are as the one before them.
+// A sector's text; a character that is repeated up to the end is there once.
 fn shortened(alloc: Global, sector: &[u8; 100]) -> Result<String, AllocError> {
     let mut n = 1;
     for i in 1..100 {
@@ -85,7 +85,7 @@ fn show_sectors<const M: u32>(rt: &impl Print, desk: &Desk<M>) -> io::Result<()>
     Ok(())
 }
 
-// Prints the arms or the sectors; false where the line is not known.
+// Prints the arms or the sectors; false if the line is not known.
 pub(crate) fn show<const M: u32>(
     rt: &impl Print,
     desk: &Desk<M>,

@@ -1,10 +1,10 @@
-// Flags that move, and numbers that lose or get zones: `MF|P|Q`, and with an odd P `TNS|P|Q` and `TNF|P|Q`.
+// Moves of flags, and numbers that lose or get zones: `MF|P|Q`, and with an odd P `TNS|P|Q` and `TNF|P|Q`.
 use crate::lines::{RowLine, place};
 use addr_indirect::Stop;
 use digit_core::Core;
 use feature_ops::{fill, move_flag, strip};
 
-// Carries out one of them; None where the line is not known.
+// Carries out one of these operations; None if the line is not known.
 pub(crate) fn call<const M: u32>(
     core: &mut Core<M>,
     line: &RowLine<'_>,

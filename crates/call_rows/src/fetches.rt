@@ -1,9 +1,9 @@
-// Core read for an instruction, and branches.
+// Reads of core for an instruction, and branches.
 //
-// - `digit|AT` what is read there, as any digit and as a decimal one; `operand|AT` the operand whose field ends there
-// - `fetch|IR` the instruction's opcode, its device or indicator, its twelve digits; `P|IR`, `Q|IR`, `immediate Q|IR` its operands
-// - `stops|` the number of each stop; `code|CODE` the row that the table of instructions has of an operation code
-// - `branch|` carries out the branch at IR, over the registers that `ir|` and `ir2|` set
+// - `digit|AT` the digit there, read as any digit and as a decimal digit; `operand|AT` the operand whose field ends there
+// - `fetch|IR` the instruction's address, opcode, device or indicator, and twelve digits; `P|IR`, `Q|IR`, `immediate Q|IR` its operands
+// - `stops|` the number of each stop; `code|CODE` the row of an operation code in the table of instructions
+// - `branch|` carries out the branch at IR, with the registers that `ir|` and `ir2|` set
 use crate::lines::{RowLine, number, place};
 use addr_indirect::{
     Instr, Stop, decimal_at, fetch, immediate_q, operand, p_operand, q_operand, read_at,
@@ -17,7 +17,7 @@ use instruction_table::{instruction_law, instruction_of};
 use std::alloc::{AllocError, Global};
 use std::io;
 
-// An operand that a line names; None where the line is not known.
+// An operand that a line names; None if the line is not known.
 fn operand_of<const M: u32>(core: &Core<M>, line: &RowLine<'_>) -> Option<Result<u32, Stop>> {
     let size = core.size();
     let at = place(core, line.first)?;
@@ -30,7 +30,7 @@ fn operand_of<const M: u32>(core: &Core<M>, line: &RowLine<'_>) -> Option<Result
     }
 }
 
-// The character of what is read, or why there is none.
+// The character of a digit that was read, or the stop.
 fn shown(alloc: Global, digit: Result<Digit, Stop>) -> Result<String, AllocError> {
     match digit {
         Ok(digit) => {
@@ -42,7 +42,7 @@ fn shown(alloc: Global, digit: Result<Digit, Stop>) -> Result<String, AllocError
     }
 }
 
-// The character of a digit; ? where no cell can hold it.
+// The character of a digit; ? if no cell can hold it.
 fn char_of(digit: Digit) -> char {
     if digit.value <= 10 || digit.value == 12 || digit.value == 15 {
         char::from(object_char(digit))
@@ -107,7 +107,7 @@ fn show_stops(rt: &impl Print) -> io::Result<()> {
     Ok(())
 }
 
-// Prints the row of an operation code; false where the line names none.
+// Prints the row of an operation code; false if the line names no code.
 fn show_code(rt: &impl Print, line: &RowLine<'_>) -> io::Result<bool> {
     instruction_law();
     match number(line.first) {
@@ -119,7 +119,7 @@ fn show_code(rt: &impl Print, line: &RowLine<'_>) -> io::Result<bool> {
     }
 }
 
-// Prints what is read in core; false where the line is not known.
+// Prints a read of core, a stop or a table row; false if the line is not known.
 pub(crate) fn show<const M: u32>(
     rt: &impl Print,
     alloc: Global,
@@ -148,7 +148,7 @@ pub(crate) fn show<const M: u32>(
     Ok(true)
 }
 
-// Carries out the branch at IR: where it goes. A stop that no branch has where there is none.
+// Carries out the branch at IR: the address to which it goes. If there is no branch, a stop that no branch has.
 fn branched<const M: u32>(
     core: &mut Core<M>,
     regs: &mut Regs,
@@ -164,7 +164,7 @@ fn branched<const M: u32>(
     branch(core, regs, panel, &instr)
 }
 
-// Carries out a branch; None where the line is not known.
+// Carries out a branch; None if the line is not known.
 pub(crate) fn call<const M: u32>(
     machine: &mut Machine<M>,
     line: &RowLine<'_>,

@@ -1,23 +1,23 @@
-// What a row is given, and what it does with it.
+// The settings of a row, and its actions.
 use crate::texts::add_line;
 use card_code::Card;
 use card_unit::Hopper;
 use outside_io::{Host, MemHost, Unit};
 use std::alloc::{AllocError, Global};
 
-// The room of each output where a row names none, in bytes.
+// The room of each output if a row sets none, in bytes.
 const ROOM: usize = 300;
 
 // How many calls a new host has answered: the bindings of its four files.
 const BINDINGS: u64 = 4;
 
-// The lines of a row, and what it is given.
+// The lines of a row, and its settings.
 #[derive(Drop)]
 pub(crate) struct Given {
     pub(crate) alloc: Global,
     // The size of core, 1, 2 or 3.
     pub(crate) size: u32,
-    // What is done.
+    // The lines of its actions.
     pub(crate) lines: Vec<String>,
     // The source deck of the row, which no unit has.
     pub(crate) source: Vec<u8>,
@@ -48,7 +48,7 @@ impl Given {
         }
     }
 
-    // Takes a line of the row. The error is want of memory.
+    // Takes a line of the row. The error is a lack of memory.
     pub(crate) fn add(&mut self, line: String) -> Result<(), AllocError> {
         let (name, text) = line.as_str().split_once('|').unwrap_or((line.as_str(), ""));
         let is_known = match name {
@@ -62,7 +62,7 @@ impl Given {
         Ok(())
     }
 
-    // Sets a number; false where it is none.
+    // Sets a number; false if the text is not a number.
     fn set(&mut self, name: &str, text: &str) -> Result<bool, AllocError> {
         let Ok(number) = text.parse::<u32>() else {
             return Ok(false);
@@ -75,7 +75,7 @@ impl Given {
         Ok(true)
     }
 
-    // Adds a line of a file so many times; false where it is none.
+    // Adds a line or a card as many times as the text gives; false if it adds nothing.
     fn add_times(&mut self, text: &str) -> Result<bool, AllocError> {
         let (times, line) = text.split_once('|').unwrap_or((text, ""));
         let (name, text) = line.split_once('|').unwrap_or((line, ""));
@@ -89,7 +89,7 @@ impl Given {
         Ok(is_known)
     }
 
-    // Adds a line to a file, or a card to the hopper; false where the name is none of theirs.
+    // Adds a line to a file, or a card to the hopper; false if the name is not a file's and not `card`.
     fn add_text(&mut self, name: &str, text: &str) -> Result<bool, AllocError> {
         match name {
             "deck" => add_line(&mut self.deck, text)?,
@@ -103,7 +103,7 @@ impl Given {
         Ok(true)
     }
 
-    // The hopper: of the row's cards where it has some, else of its deck.
+    // The hopper: with the row's cards if it has any, else with its deck.
     pub(crate) fn hopper(&self) -> Result<Hopper, AllocError> {
         if self.cards.is_empty() {
             return Ok(Hopper::of_units());
@@ -113,7 +113,7 @@ impl Given {
         Ok(Hopper::of_cards(cards))
     }
 
-    // A host with the row's files, of which each is bound.
+    // A host with the row's files, all of them bound.
     pub(crate) fn host(&self) -> Result<MemHost, AllocError> {
         let mut host = MemHost::new(self.alloc, self.room)?;
         host.file("deck", &self.deck)?;

@@ -4,7 +4,7 @@ ghost use Rattle.digit_core.specs.Size.{size};
 
 use digit_core::Core;
 
-// A line: its name, the first word behind it, and all behind that.
+// A line: its name, the first word after the name, and all the text after this word.
 #[derive(Clone, Copy)]
 pub(crate) struct RowLine<'a> {
     pub(crate) text: &'a str,
@@ -37,7 +37,7 @@ pub(crate) fn two_numbers(words: &str) -> Option<(u32, u32)> {
     Some((number(first)?, number(second)?))
 }
 
-// The place in core of a word.
+// The place in core that a word names.
 pub(crate) fn place<const M: u32>(core: &Core<M>, word: &str) -> Option<u32>
     ensures { IfSome result (λ a. a < size M) }
 {

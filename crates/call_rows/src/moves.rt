@@ -4,7 +4,7 @@ use addr_indirect::Stop;
 use digit_core::Core;
 use field_moves::{cf, sf, td, tf, tr};
 
-// Carries out a move; None where the line is not known.
+// Carries out a move; None if the line is not known.
 pub(crate) fn call<const M: u32>(
     core: &mut Core<M>,
     line: &RowLine<'_>,

@@ -1,12 +1,12 @@
 // Names of operations.
 //
-// - `operation|NAME` what a statement's columns 12 to 15 stand for: an instruction by its opcode, behind it `flag` where the assembler sets
-//   one on Q7, or the Q of a unique mnemonic; a declarative; or `none`
+// - `operation|NAME` the operation that a statement's columns 12 to 15 name: an instruction by its opcode, with `flag` if the assembler
+//   sets a flag on Q7, or with the Q of a unique mnemonic; a declarative; or `none`
 use crate::lines::RowLine;
 use sps_ops::{Operation, lookup};
 use std::io;
 
-// Prints the operation of a name; false where the line is not known.
+// Prints the operation of a name; false if the line is not known.
 pub(crate) fn show(rt: &impl Print, line: &RowLine<'_>) -> io::Result<bool> {
     if line.name != "operation" {
         return Ok(false);

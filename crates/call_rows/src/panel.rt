@@ -1,9 +1,9 @@
 // The switches and indicators.
 //
-// - `on|N`, `off|N` the switch or indicator of that code is set; `dark|` all are off, `bright|` all on with the check switches at STOP
-// - `checks|OVERFLOW|IO` sets the check switches, 1 is STOP; `result|ZERO|NEGATIVE` shows a result; `clear|` does what the Load key does
+// - `on|N`, `off|N` sets the switch or indicator with code N; `dark|` turns all off, `bright|` all on with the check switches at STOP
+// - `checks|OVERFLOW|IO` sets the check switches, 1 is STOP; `result|ZERO|NEGATIVE` shows a result; `clear|` clears as the Load key does
 // - `reads|` shows the codes of 0 to 255 that read as on, and the check switches
-// - `tests|` the codes of 0 to 255 whose test says yes, or changes the panel, and what is on behind each
+// - `tests|` the codes of 0 to 255 whose test is true or changes the panel, and the codes that are on after each test
 use crate::lines::{RowLine, number};
 use indicators::Panel;
 use std::alloc::{AllocError, Global};
@@ -12,7 +12,7 @@ use std::io;
 // The codes that can be set.
 const CODES: [u8; 15] = [1, 2, 3, 4, 6, 7, 9, 11, 12, 14, 16, 17, 36, 37, 38];
 
-// Whether a code can be set.
+// Sets the switch or indicator of a code; None if this code can't be set.
 fn set_code(panel: &mut Panel, code: u32, to: bool) -> Option<()> {
     for settable in [1, 2, 3, 4, 6, 7, 9, 11, 12, 14, 16, 17, 36, 37, 38] {
         if code == u32::from(settable) {
@@ -22,7 +22,7 @@ fn set_code(panel: &mut Panel, code: u32, to: bool) -> Option<()> {
     None
 }
 
-// Turns a switch or an indicator on or off.
+// Turns a switch or an indicator on or off; None if its code can't be set.
 fn set_settable(panel: &mut Panel, code: u8, to: bool) -> Option<()> {
     if matches!(code, 1..=4 | 6 | 7 | 9 | 11 | 12 | 14 | 16 | 17 | 36..=38) {
         panel.set(code, to);
@@ -40,7 +40,7 @@ fn light(panel: &mut Panel) -> Option<()> {
     Some(())
 }
 
-// Sets the panel; None where the line is not known.
+// Sets the panel; None if the line is not known.
 pub(crate) fn set(panel: &mut Panel, line: &RowLine<'_>) -> Option<()> {
     let first = number(line.first).unwrap_or(0);
     let second = number(line.second).unwrap_or(0);
@@ -57,7 +57,7 @@ pub(crate) fn set(panel: &mut Panel, line: &RowLine<'_>) -> Option<()> {
     Some(())
 }
 
-// The codes that are on and name one switch or indicator, and the check switches at STOP, each behind a blank.
+// The codes that are on and name one switch or indicator, and the check switches at STOP, each after a blank.
 pub(crate) fn lamps(alloc: Global, panel: &Panel) -> Result<String, AllocError> {
     let mut text = String::new(alloc);
     for code in CODES {
@@ -87,7 +87,7 @@ fn show_reads(rt: &impl Print, panel: &Panel) -> io::Result<()> {
     println!(rt; " {:?}", panel.checks())
 }
 
-// Prints what a test of each code says, and what is on behind it; nothing where it says no and leaves the panel.
+// Prints the answer of a test of each code, and what is on after it; nothing if it is false and the panel stays.
 fn show_tests(rt: &impl Print, alloc: Global, panel: &Panel) -> io::Result<()> {
     for code in 0u8..=255 {
         let mut behind = *panel;
@@ -99,7 +99,7 @@ fn show_tests(rt: &impl Print, alloc: Global, panel: &Panel) -> io::Result<()> {
     Ok(())
 }
 
-// Prints what the panel says; false where the line is not known.
+// Prints reads or tests of the panel; false if the line is not known.
 pub(crate) fn show(
     rt: &impl Print,
     alloc: Global,

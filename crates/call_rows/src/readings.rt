@@ -1,10 +1,10 @@
-// What was read that no card or key has, and what an operator sees of a machine.
+// Bad characters, the counts of cards and lines that were read, and the console of a machine.
 //
-// - `bad digits|`, `bad pairs|` shows how many of the 256 bytes are bad where they are read so, and the printable ones of these
-// - `tally|` begins a new tally; `digits of|UNIT|N|TEXT`, `pairs of|UNIT|N|TEXT` takes up the bad characters of card or line N of the unit,
-//   `deck`, `data` or `keys`, read so
+// - `bad digits|`, `bad pairs|` shows how many of the 256 bytes are bad as digits or as pairs, and the printable bytes among these
+// - `tally|` begins a new tally; `digits of|UNIT|N|TEXT`, `pairs of|UNIT|N|TEXT` adds the bad characters of card or line N of the unit,
+//   `deck`, `data` or `keys`, read as digits or as pairs
 // - `read|` shows how many cards and lines the machine has read, and their bad characters
-// - `console|` what its console shows, each of the twelve cells as a number
+// - `console|` shows the console, each of the twelve cells as a number
 use crate::desk::Desk;
 use crate::lines::{RowLine, number};
 use crate::panel::lamps;
@@ -25,7 +25,7 @@ fn unit_named(name: &str) -> Option<Unit> {
     }
 }
 
-// Begins a new tally, or takes up characters; None where the line is not known.
+// Begins a new tally, or adds the bad characters of a text; None if the line is not known.
 fn take_up<const M: u32>(desk: &mut Desk<M>, line: &RowLine<'_>) -> Option<()> {
     let how = match line.name {
         "tally" => {
@@ -59,7 +59,7 @@ fn tally_text(alloc: Global, tally: &Tally) -> Result<String, AllocError> {
     }
 }
 
-// Prints how many bytes are bad where they are read so, and the printable ones.
+// Prints how many bytes are bad as digits or as pairs, and the printable bytes among these.
 fn show_bad(rt: &impl Print, alloc: Global, name: &str, how: ReadAs) -> io::Result<()> {
     let mut count: u32 = 0;
     let mut printable = Vec::new(alloc);
@@ -75,7 +75,7 @@ fn show_bad(rt: &impl Print, alloc: Global, name: &str, how: ReadAs) -> io::Resu
     println!(rt; "{name}|{count}|{printable}")
 }
 
-// Prints what the units of a machine have read.
+// Prints the counts of cards and lines that a machine has read, and their bad characters.
 fn show_read<const M: u32>(rt: &impl Print, alloc: Global, machine: &Machine<M>) -> io::Result<()> {
     let cards = machine.hopper.cards_read();
     let (deck, behind, lines) = (cards.of_deck, cards.of_data, machine.keys.handed_out());
@@ -85,7 +85,7 @@ fn show_read<const M: u32>(rt: &impl Print, alloc: Global, machine: &Machine<M>)
     println!(rt; "|cards {bad_cards}|keys {bad_lines}")
 }
 
-// Prints what the console of a machine shows.
+// Prints the console of a machine.
 fn show_console<const M: u32>(
     rt: &impl Print,
     alloc: Global,
@@ -110,7 +110,7 @@ fn show_console<const M: u32>(
     println!(rt; "|cards {bad_cards}|keys {bad_lines}")
 }
 
-// Prints what was read or is shown; false where the line is not known.
+// Prints bad characters, counts or the console; false if the line is not known.
 pub(crate) fn show<const M: u32>(
     rt: &impl Print,
     desk: &mut Desk<M>,

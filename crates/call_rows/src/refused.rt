@@ -1,7 +1,7 @@
-// A statement of a source, as one that breaks a rule.
+// A statement of a source, as if it were refused.
 //
-// - `refused|N|PART` shows statement N of the row's source as refused for `UndefinedSymbol`, by the operand part of that place, from 0; no
-//   PART: by none
+// - `refused|N|PART` shows statement N of the row's source as refused for `UndefinedSymbol`, with the operand part at place PART, from 0;
+//   without PART no part
 use crate::desk::Desk;
 use crate::lines::{RowLine, number};
 use crate::texts::front;
@@ -14,7 +14,7 @@ fn part_of(word: &str) -> Option<u8> {
     word.parse::<u8>().ok()
 }
 
-// Prints a refused statement; false where the line is not known.
+// Prints a refused statement; false if the line is not known.
 pub(crate) fn show<const M: u32>(
     rt: &impl Print,
     desk: &Desk<M>,

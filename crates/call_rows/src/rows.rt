@@ -15,7 +15,7 @@ use outside_io::Unit;
 use std::alloc::AllocError;
 use std::io;
 
-// Sets something; None where the line sets nothing.
+// Sets something; None if the line sets nothing.
 fn set<const M: u32>(desk: &mut Desk<M>, line: &RowLine<'_>) -> Option<()> {
     if let Some(()) = cells::set(desk, line) {
         return Some(());
@@ -29,7 +29,7 @@ fn set<const M: u32>(desk: &mut Desk<M>, line: &RowLine<'_>) -> Option<()> {
     steps::set(&mut desk.machine, line)
 }
 
-// Carries out an instruction within core; None where the line is none.
+// Carries out an instruction within core; None if the line has no such instruction.
 fn within_core<const M: u32>(desk: &mut Desk<M>, line: &RowLine<'_>) -> Option<Result<(), Stop>> {
     if let Some(answer) = sums::call(&mut desk.machine, line) {
         return Some(answer);
@@ -43,7 +43,7 @@ fn within_core<const M: u32>(desk: &mut Desk<M>, line: &RowLine<'_>) -> Option<R
     characters::call(&mut desk.machine, line)
 }
 
-// What a call answers, in words; None where the line calls nothing.
+// The answer of a call, in words; None if the line calls nothing.
 fn answer<const M: u32>(
     desk: &mut Desk<M>,
     line: &RowLine<'_>,
@@ -65,7 +65,7 @@ fn answer<const M: u32>(
     Ok(Some(words))
 }
 
-// The same of a unit, or of the machine as a whole.
+// The answer of a unit's call, or of a call of the whole machine.
 fn unit_answer<const M: u32>(
     desk: &mut Desk<M>,
     line: &RowLine<'_>,
@@ -86,7 +86,7 @@ fn unit_answer<const M: u32>(
     Ok(Some(words))
 }
 
-// Prints what an output was given, in lines as those of a file; false where the line is not known.
+// Prints the text of an output, in lines as in a file; false if the line is not known.
 fn show_output<const M: u32>(
     rt: &impl Print,
     desk: &Desk<M>,
@@ -101,7 +101,7 @@ fn show_output<const M: u32>(
     Ok(true)
 }
 
-// Prints what the line asks for; false where it asks for nothing.
+// Prints what the line asks for; false if it asks for nothing.
 fn shows<const M: u32>(
     rt: &impl Print,
     desk: &mut Desk<M>,
@@ -151,7 +151,7 @@ fn row_over<const M: u32>(rt: &impl Print, given: &Given) -> io::Result<()>
     println!(rt; "")
 }
 
-// The same with a core of the row's size.
+// Carries out a row with a core of the row's size.
 pub(crate) fn row(rt: &impl Print, given: &Given) -> io::Result<()> {
     match given.size {
         1 => row_over::<1>(rt, given),

@@ -1,13 +1,13 @@
 // The machine as a whole.
 //
-// - `ir|A`, `ir2|A` sets a register; `run|` the machine runs, `halt|A` it is halted by the instruction there
-// - `step|` the instruction at IR, if it runs; `steps|N` up to N of them: how the last one ended; `load|` the Load key
+// - `ir|A`, `ir2|A` sets a register; `run|` the machine runs, `halt|A` the instruction at A has halted it
+// - `step|` makes a step if the machine runs, `steps|N` up to N steps: how the last step ended; `load|` presses the Load key
 use crate::desk::Desk;
 use crate::lines::{RowLine, number};
 use cpu_step::{Machine, Mode, Turned};
 use outside_io::MemHost;
 
-// Sets the registers or the mode; None where the line is not known.
+// Sets the registers or the mode; None if the line is not known.
 pub(crate) fn set<const M: u32>(machine: &mut Machine<M>, line: &RowLine<'_>) -> Option<()> {
     match line.name {
         "ir" => machine.regs.ir = number(line.first)?,
@@ -23,7 +23,7 @@ pub(crate) fn set<const M: u32>(machine: &mut Machine<M>, line: &RowLine<'_>) ->
     Some(())
 }
 
-// Up to so many steps, as long as the machine runs: how the last one ended, `On` where there was none.
+// Makes up to `count` steps, as long as the machine runs: how the last step ended, `On` without a step.
 fn steps<const M: u32>(machine: &mut Machine<M>, host: &mut MemHost, count: u32) -> Turned {
     let mut last = Turned::On;
     for _ in 0..count {
@@ -34,7 +34,7 @@ fn steps<const M: u32>(machine: &mut Machine<M>, host: &mut MemHost, count: u32)
     last
 }
 
-// Goes on, or presses the Load key; None where the line is not known.
+// Makes steps, or presses the Load key; None if the line is not known.
 pub(crate) fn call<const M: u32>(desk: &mut Desk<M>, line: &RowLine<'_>) -> Option<Turned> {
     match line.name {
         "step" => Some(steps(&mut desk.machine, &mut desk.host, 1)),

@@ -4,7 +4,7 @@ use addr_indirect::Stop;
 use cpu_step::Machine;
 use table_arith::{Kind, add, compare};
 
-// Carries out a sum or a comparison; None where the line is not known.
+// Carries out a sum or a comparison; None if the line is not known.
 pub(crate) fn call<const M: u32>(
     machine: &mut Machine<M>,
     line: &RowLine<'_>,

@@ -13,7 +13,7 @@ fn digit_of(byte: u8) -> u8 {
 
 // Adds a line to a text: `\` and two digits of base 16 are a byte, and `\` at its end leaves the line end out.
 //
-// The error is want of memory.
+// The error is a lack of memory.
 pub(crate) fn add_line(text: &mut Vec<u8>, line: &str) -> Result<(), AllocError> {
     let mut digits: u8 = 0;
     let mut value: u8 = 0;
@@ -36,7 +36,7 @@ pub(crate) fn add_line(text: &mut Vec<u8>, line: &str) -> Result<(), AllocError>
     Ok(())
 }
 
-// Adds a byte to a line as it is shown: itself where it is a printable character.
+// Adds a byte to a line as it is shown: as itself if it is printable, but not `\`.
 fn add_shown(alloc: Global, line: &mut String, byte: u8) -> Result<(), AllocError> {
     if byte == b'\\' || !(b' '..=b'~').contains(&byte) {
         let digits = format!(in alloc; "\\{byte:02x}")?;
@@ -55,7 +55,7 @@ pub(crate) fn front(alloc: Global, text: &[u8], n: usize) -> Result<String, Allo
     Ok(line)
 }
 
-// Prints a text in lines behind a name, as `add_line` takes them.
+// Prints a text in lines after a name, in the form that `add_line` takes.
 pub(crate) fn show_text(rt: &impl Print, alloc: Global, name: &str, text: &[u8]) -> io::Result<()> {
     let mut line = String::new(alloc);
     for &byte in text {

@@ -1,14 +1,14 @@
 // The typewriter and its keyboard.
 //
 // - `WNTY|P`, `WATY|P`, `DNTY|P` types and dumps, `SPTY|`, `RCTY|`, `TBTY|` types a blank, a line feed, a tab
-// - `RNTY|P`, `RATY|P` reads a line of the keyboard; P is odd where pairs are read or typed
+// - `RNTY|P`, `RATY|P` reads a line of the keyboard; P is odd if pairs are read or typed
 use crate::desk::Desk;
 use crate::lines::{RowLine, place};
 use cpu_step::Machine;
 use outside_io::MemHost;
 use typewriter::{TypeIo, control, dump, read_alpha, read_num, write_alpha, write_num};
 
-// Types core; None where the line is not known.
+// Types core; None if the line is not known.
 fn types<const M: u32>(
     machine: &mut Machine<M>,
     host: &mut MemHost,
@@ -24,7 +24,7 @@ fn types<const M: u32>(
     }
 }
 
-// Types, or reads a line of the keyboard; None where the line is not known.
+// Types, or reads a line of the keyboard; None if the line is not known.
 pub(crate) fn call<const M: u32>(desk: &mut Desk<M>, line: &RowLine<'_>) -> Option<TypeIo> {
     match line.name {
         "SPTY" => Some(control(1, &mut desk.host)),
@@ -35,7 +35,7 @@ pub(crate) fn call<const M: u32>(desk: &mut Desk<M>, line: &RowLine<'_>) -> Opti
     }
 }
 
-// Reads a line of the keyboard; None where the line is not known.
+// Reads a line of the keyboard; None if the line is not known.
 fn read<const M: u32>(desk: &mut Desk<M>, line: &RowLine<'_>) -> Option<TypeIo> {
     let (machine, host) = (&mut desk.machine, &mut desk.host);
     let (core, panel) = (&mut machine.core, &mut machine.panel);

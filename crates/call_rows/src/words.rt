@@ -1,6 +1,6 @@
 // Words of ten cells.
 //
-// - `ten|A` the ten cells from there, `word of|I` those of the word of that number: each cell's digit, where its field and its record end
+// - `ten|A` the ten cells from A, `word of|I` the cells of word I: each cell's digit, and the lengths of its field and its record
 // - `twelve|A` the digits of twelve cells
 //
 // A digit over 9 has a `+` before it, and a cell that is not good is a `?`.
@@ -18,7 +18,7 @@ fn one(j: u32) -> u64 {
     ones_from(j) & ones_below(j + 1)
 }
 
-// The characters of so many of a word's cells.
+// The characters of the lowest `n` cells of a word.
 fn chars(alloc: Global, w: u64, n: u32) -> Result<String, AllocError> {
     let mut text = String::new(alloc);
     for j in 0..n.min(10) {
@@ -34,7 +34,7 @@ fn chars(alloc: Global, w: u64, n: u32) -> Result<String, AllocError> {
     Ok(text)
 }
 
-// The character of a word's cell, where all of them are good.
+// The character of a word's cell; `.` unless all its cells are good.
 fn char_in(w: u64, j: u32) -> char {
     if j < 10 && are_good(w) {
         char::from(object_char(digit_in(w, j)))
@@ -73,7 +73,7 @@ fn show_twelve<const M: u32>(
     }
 }
 
-// Prints a word; false where the line is not known.
+// Prints a word; false if the line is not known.
 pub(crate) fn show<const M: u32>(
     rt: &impl Print,
     alloc: Global,

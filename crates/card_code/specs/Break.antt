@@ -11,7 +11,7 @@ pub data Break : Type 0 where
   NoKeys : Break
   JamsAt : (from : unit.Unit) (line : ℕ) → Break
 
--- a reading, and an action, that stops alone end
+-- a result, and an action, that ends early only by a stop
 abbrev pub or_break : {A : Type 0} → Result A Stop → Result A Break
 or_break r = map_reason StopsBy r
 

@@ -37,7 +37,7 @@ object_table =
     digit_row false (codes "0123456789|@}") values
     ++ digit_row true (codes "]JKLMNOPQR!*\"") values
 
--- what cards and keys have besides
+-- the characters of cards and keys: the object characters, and others
 abbrev pub numerical_table : List DigitEntry
 numerical_table =
     object_table
@@ -56,7 +56,7 @@ object_digit c = digit_in object_table c
 abbrev pub num_of : ℕ → Option Digit
 num_of c = digit_in numerical_table c
 
--- the character of a good digit, and the one that is punched for it
+-- the object character of a good digit, and the character that it is punched as
 abbrev pub object_char : Digit → ℕ
 object_char d = unwrap_or (char_in object_table d) 32
 

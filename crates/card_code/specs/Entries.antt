@@ -1,5 +1,5 @@
--- What stands in a hopper, or before the keyboard, to be read.
--- Source: 1622 manual, card format, reader hopper and last card; that lines stand for cards, and which are too long, is
+-- The entries that are to be read from a hopper or from the keyboard.
+-- Source: 1622 manual, card format, reader hopper and last card; that lines are read as cards, and which are too long, is
 -- this project's own.
 use Rattle.std.specs.Prelude.{ℕ, Bool, true, false, ◌-◌, List, [], ◌∷◌, ◌++◌, length, map, replicate, nat_lt, if◌then◌else◌, Result, Ok, Err, Option, option_map}
 use Rattle.outside_io.specs.declared.host.Unit as unit
@@ -17,16 +17,16 @@ pub data Entry : Type 0 where
 abbrev pub entry : unit.Unit → ℕ → List ℕ → Entry
 entry u n text = if nat_lt 80 (length text) then Long u n else Text text
 
--- the entries of a unit's texts, n lines having gone before
+-- the entries of a unit's texts, after n lines
 abbrev pub entries : unit.Unit → ℕ → List (List ℕ) → List Entry
 entries u n [] = []
 entries u n (text ∷ texts) = entry u (one_more n) text ∷ entries u (one_more n) texts
 
--- the entries of a unit's bytes, n lines having gone before
+-- the entries of a unit's bytes, after n lines
 abbrev pub entries_of_unit : unit.Unit → ℕ → List ℕ → List Entry
 entries_of_unit u n bytes = entries u n (texts_of bytes)
 
--- the entries of all that a unit has left, where it's told
+-- the entries that a unit has left, if the host reveals its bytes
 abbrev pub unit_entries : unit.Unit → World → Option (List Entry)
 unit_entries u w = option_map (entries_of_unit u 0) (w.left u)
 
@@ -43,7 +43,7 @@ abbrev pub has_none_left : List Entry → Bool
 has_none_left [] = true
 has_none_left (e ∷ es) = false
 
--- what stands behind the front entry
+-- the entries after the first
 abbrev pub behind : List Entry → List Entry
 behind [] = []
 behind (e ∷ es) = es

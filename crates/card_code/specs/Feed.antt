@@ -1,4 +1,4 @@
--- Where entries are taken from, as a hopper and a keyboard are: what the taking of one does, and what a reading into core does.
+-- A feed of entries, as a hopper or a keyboard: how an entry is taken from it, and how it is read into core.
 use Rattle.std.specs.Prelude.{ℕ, ◌≡◌, List, Option, Some, None, option_map, Result, Ok, Err, ⊤}
 use Rattle.indicators.specs.declared.Panel.{Panel}
 use Rattle.outside_io.specs.World.{World, Seen, Rose}
@@ -10,13 +10,13 @@ use Rattle.card_code.specs.Break.{Break, stop_as_break}
 use Rattle.card_code.specs.Entries.{Entry, behind}
 use Rattle.card_code.specs.TextIn.{Intake, TakesText, Changes, Desk, desk_after}
 
--- how entries are taken from an S: what it has left, where that's told, what may happen outside, and what comes of what is left
+-- how entries are taken from an S: its entries left, if the host reveals them, the changes outside, and the answer by the entries left
 pub record Feed (S A : Type 0) : Type 1 where
   pub left : S → World → Option (List Entry)
   pub Looks : Seen → Seen → Type 0
   pub next : List Entry → Result A Break
 
--- nothing of the meaning changed
+-- the entries that are left stay
 pub record Stays {S A : Type 0} (feed : Feed S A) (old new : S) (before after : Seen) : Type 0 where
   pub looks : feed.Looks before after
   pub left : feed.left new after.world ≡ feed.left old before.world
@@ -37,7 +37,7 @@ pub record FailsToTake {S A : Type 0} (feed : Feed S A) (old new : S) (before af
   pub stays : Stays feed old new before after
   pub rose : Rose before.faults after.faults
 
--- what the taking of an entry does, by how it ends: None where the host failed
+-- what the taking of an entry does, by how it ends: None if the host failed
 abbrev pub TakesNext : {S A : Type 0} → Feed S A → S → S → Seen → Seen → Option (Result A Break) → Type 0
 TakesNext feed old new before after (Some (Ok what)) = GivesEntry feed old new before after what
 TakesNext feed old new before after (Some (Err why)) = Lacks feed old new before after why
@@ -60,15 +60,15 @@ pub record Station (S : Type 0) : Type 0 where
 abbrev pub station : {S : Type 0} → List ℕ → Panel → S → Seen → Station S
 station core panel from seen = record { core = core; panel = panel; from = from; seen = seen }
 
--- what a station has left to be read, where it's told
+-- the entries that a station has left, if the host reveals them
 abbrev pub left_at : {S A : Type 0} → Feed S A → Station S → Option (List Entry)
 left_at feed x = feed.left x.from x.seen.world
 
--- its desk, over these entries
+-- the desk of a station that has these entries left
 abbrev pub desk_at : {S : Type 0} → Station S → List Entry → Desk
 desk_at x left = record { core = x.core; panel = x.panel; left = left }
 
--- all of a reading was done, over entries that are the told ones where they are told
+-- all of a reading was done, over the entries that are left, or over any if the host doesn't reveal them
 pub record ReadsAll {S A : Type 0} (feed : Feed S A) (t : List Entry → Trace Intake ⊤ Break)
     (old new : Station S) (answer : Result ⊤ Break) : Type 0 where
   pub given : List Entry
@@ -85,7 +85,7 @@ pub record ReadsNone {S A : Type 0} (feed : Feed S A) (old new : Station S) : Ty
   pub panel_same : new.panel ≡ old.panel
   pub fails : FailsToTake feed old.from new.from old.seen new.seen
 
--- what a reading with the trace t does, by how it ends: None where the host failed
+-- what a reading with the trace t does, by how it ends: None if the host failed
 abbrev pub ReadsIn : {S A : Type 0} → Feed S A → (List Entry → Trace Intake ⊤ Break) → Station S → Station S
     → Option (Result ⊤ Break) → Type 0
 ReadsIn feed t old new (Some answer) = ReadsAll feed t old new answer

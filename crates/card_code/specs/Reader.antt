@@ -26,7 +26,7 @@ lines_handed_out lines = lines.number
 abbrev pub lines_tally : Lines → Tally
 lines_tally lines = lines.bad
 
--- the reader after it took up the bad ones among these characters of its last line
+-- the reader after the bad ones among these characters of its last line were tallied
 abbrev pub with_bad_stored : ReadAs → List ℕ → Lines → Lines
 with_bad_stored how text lines =
     record lines { bad = with_bad (bad_from (unit_of lines) (lines_handed_out lines) how 1 text) (lines_tally lines) }
@@ -35,30 +35,30 @@ with_bad_stored how text lines =
 abbrev pub bytes_held : Lines → List ℕ
 bytes_held lines = lines.held.items ++ take (lines.end - lines.start) (drop lines.start lines.piece)
 
--- the bytes that are left, where they're told
+-- the bytes that are left, if the host reveals them
 abbrev pub lines_rest : Lines → World → Option (List ℕ)
 lines_rest lines w = option_map (λ left. bytes_held lines ++ left) (w.left (unit_of lines))
 
--- the lines that are left, where they're told
+-- the lines that are left, if the host reveals them
 abbrev pub entries_left : Lines → World → Option (List Entry)
 entries_left lines w = option_map (entries_of_unit (unit_of lines) (lines_handed_out lines)) (lines_rest lines w)
 
--- a LF stands in the bytes
+-- the bytes have a LF
 abbrev pub has_end : List ℕ → Bool
 has_end [] = false
 has_end (b ∷ bytes) = b == 10 || has_end bytes
 
--- what is held shows the next line: a LF stands in it, or it has so many bytes that no line has them
+-- the bytes held show the next line: they have a LF, or they are more than any line has
 abbrev pub HasWhole : List ℕ → Type 0
 HasWhole held = (has_end held ≡ true) ⊎ (82 ≤ length held)
 
--- some readings, and then a last one, which gave these bytes or found no more; None where the host failed in it
+-- some readings, and then a last one, which gave these bytes or found no more; None if the host failed in it
 abbrev pub with_last_reading : Readings → Option (List ℕ) → Readings
 with_last_reading earlier None = earlier
 with_last_reading earlier (Some piece) = both_readings earlier (one_reading piece)
 
--- the host was asked, and each time that was needed: every reading before the last gave some bytes, and what was held with these didn't show
--- the next line
+-- the host was asked only as needed: every reading before the last gave some bytes, and with these the bytes held didn't show the
+-- next line
 pub record AsksAsNeeded (old : Lines) (before after : Seen) : Type 0 where
   pub earlier : Readings
   pub last : Option (List ℕ)
@@ -67,38 +67,38 @@ pub record AsksAsNeeded (old : Lines) (before after : Seen) : Type 0 where
   pub begins : BeginsWith (with_last_reading earlier last).bytes (before.world.left (unit_of old))
   pub goes : Goes before after (world_after_take (unit_of old) (with_last_reading earlier last) before.world)
 
--- the host was asked only while what was held didn't show the next line
+-- the host was asked only while the bytes held didn't show the next line
 pub data TakesNeeded (old : Lines) (before after : Seen) : Type 0 where
   takes_none : after ≡ before → TakesNeeded old before after
   takes_some : AsksAsNeeded old before after → TakesNeeded old before after
 
--- A READER IN TURN: its unit was asked for no more than was needed. As it was asked last, it was found to have no more; or that reading ended
--- a line that was handed out, and of what it gave only a rest is held; or what is held doesn't show the next line; or it shows that this line
--- is over 80 bytes, and stays.
+-- A READER IN TURN: its unit was asked for no more than was needed. The last reading found no more bytes; or it gave more bytes than
+-- are held, so it ended a line that was handed out; or the bytes held don't show the next line; or they show that this line is over
+-- 80 bytes.
 abbrev pub AsksInTurn : List ℕ → Asked → Type 0
 AsksInTurn held asked =
     (asked.last ≡ 0) ⊎ ((length held < asked.last) ⊎ ((HasWhole held → ⊥) ⊎ (80 < length (first_text held))))
 
--- it is, where the host tells how the unit was asked
+-- a reader is in turn, if the host reveals how its unit was asked
 abbrev pub IsInTurn : Lines → World → Type 0
 IsInTurn lines w = IfSome (w.asked (unit_of lines)) (AsksInTurn (bytes_held lines))
 
--- A READER ONE AHEAD is in turn but for a look at whether a byte is left behind the line that was handed out last: what that look gave may all be
--- held.
+-- A READER ONE AHEAD is in turn, except for a look whether a byte is left after the line that was handed out last: all bytes that this
+-- look gave may be held.
 abbrev pub AsksOneAhead : List ℕ → Asked → Type 0
 AsksOneAhead held asked =
     (asked.last ≡ 0) ⊎ ((length held ≤ asked.last) ⊎ ((HasWhole held → ⊥) ⊎ (80 < length (first_text held))))
 
--- it is, where the host tells how the unit was asked
+-- a reader is one ahead, if the host reveals how its unit was asked
 abbrev pub IsOneAhead : Lines → World → Type 0
 IsOneAhead lines w = IfSome (w.asked (unit_of lines)) (AsksOneAhead (bytes_held lines))
 
--- the host was asked
+-- the host was asked once
 pub record AsksOne (old : Lines) (before after : Seen) : Type 0 where
   pub last : Option (List ℕ)
   pub goes : Goes before after (world_after_take (unit_of old) (with_last_reading no_readings last) before.world)
 
--- once at most
+-- the host was asked once at most
 pub data AsksOnce (old : Lines) (before after : Seen) : Type 0 where
   asks_none : after ≡ before → AsksOnce old before after
   asks_one : AsksOne old before after → AsksOnce old before after
@@ -109,7 +109,7 @@ pub record AsksUnit (old new : Lines) (before after : Seen) : Type 0 where
   pub taken : Readings
   pub goes : Goes before after (world_after_take (unit_of old) taken before.world)
 
--- nothing of the meaning changed
+-- the bytes that are left and the count of lines handed out stay
 pub record Stays (old new : Lines) (before after : Seen) : Type 0 where
   pub moves : AsksUnit old new before after
   pub rest : lines_rest new after.world ≡ lines_rest old before.world
@@ -158,15 +158,15 @@ HasMore old new before after more.Yes = IsLeft old new before after
 HasMore old new before after more.No = HasEnded old new before after
 HasMore old new before after more.Failed = HostFails old new before after
 
--- an entry stands at the front of those that are left, where they're told
+-- an entry is the first of the entries that are left, if the host reveals them
 abbrev pub Fronts : Entry → Option (List Entry) → Type 0
 Fronts e left = IfSome left (λ es. es ≡ e ∷ behind es)
 
--- no entry is left, where they're told
+-- no entry is left, if the host reveals the entries
 abbrev pub HasNone : Option (List Entry) → Type 0
 HasNone left = IfSome left (λ es. es ≡ [])
 
--- some entry is left, where they're told
+-- some entry is left, if the host reveals the entries
 abbrev pub HasSome : Option (List Entry) → Type 0
 HasSome left = IfSome left (λ es. has_none_left es ≡ false)
 

@@ -1,4 +1,4 @@
--- What was read of cards and of the keyboard, and the characters there that no card or key has.
+-- The cards and keyboard lines that were read, and their bad characters.
 -- Source: 1622 manual, numerical reading and alphameric reading, for which characters are bad; that they are tallied is this project's own.
 use Rattle.std.specs.Prelude.{ℕ, ◌≡◌, ◌+◌, min, ⊤, Bool, is_none, List, [], ◌∷◌, length, take, Option, Some, None, unwrap_or, if◌then◌else◌}
 use Rattle.std.specs.List.{flat_map}
@@ -17,19 +17,19 @@ abbrev pub is_bad : ReadAs → ℕ → Bool
 is_bad Digit c = is_none (num_of c)
 is_bad Pair c = is_none (alpha_of c)
 
--- the bad ones of some characters of a line of a unit, the first of which stands in this column, as they are read
+-- the bad ones of some characters of a unit's line, as `how` reads them; the first character is in this column
 unfoldable pub bad_from : unit.Unit → ℕ → ReadAs → ℕ → List ℕ → List BadCharacter
 bad_from u line how column [] = []
 bad_from u line how column (c ∷ cs) =
     if is_bad how c then (record { unit = u; line = line; column = column; byte = c }) ∷ bad_from u line how (column + 1) cs
     else bad_from u line how (column + 1) cs
 
--- the first of some
+-- the first of some bad characters
 abbrev pub first_of : List BadCharacter → Option BadCharacter
 first_of [] = None
 first_of (bad ∷ more) = Some bad
 
--- so many, or as many as a count has room for
+-- a count of n, or the highest count if n is over it
 abbrev pub counted : ℕ → ℕ
 counted n = min n most_faults
 
@@ -40,7 +40,7 @@ tally_of bad = record { first = first_of bad; count = counted (length bad) }
 abbrev pub no_bad : Tally
 no_bad = tally_of []
 
--- a tally that has taken up one more, and one that has taken up some, one after another
+-- a tally with one bad character more, and with some more, one after another
 abbrev pub with_one : BadCharacter → Tally → Tally
 with_one bad t = record { first = Some (unwrap_or t.first bad); count = one_more t.count }
 
@@ -57,7 +57,7 @@ pub record Reading : Type 0 where
   pub how : ReadAs
   pub room : ℕ
 
--- the characters that were stored of it, and the bad ones among them
+-- the characters of a reading that were stored, and the bad ones among them
 abbrev pub stored_of : Reading → List ℕ
 stored_of r = take r.room r.text
 
@@ -68,11 +68,11 @@ bad_in r = bad_from r.unit r.line r.how 1 (stored_of r)
 abbrev pub all_bad : List Reading → List BadCharacter
 all_bad readings = flat_map bad_in readings
 
--- what was read, as it stood in the hopper, or before the keyboard
+-- the entry that was read
 abbrev pub entry_read : Reading → Entry
 entry_read r = Text r.text
 
--- how many lines of each unit were read: none, one more of a unit, and those of some readings more
+-- how many lines of each unit were read: none; one more of a unit; and one more for each of some readings
 abbrev pub no_lines : unit.Unit → ℕ
 no_lines u = 0
 

@@ -15,12 +15,12 @@ use Rattle.card_code.specs.Pairs.{Pair, alpha_of}
 use Rattle.card_code.specs.Entries.{Entry, behind}
 use Rattle.indicators.specs.Codes.{READ_CHECK}
 
--- what reading a text does: it's taken from its unit, and then core and panel change
+-- the effects of reading a text: it is taken from its unit, and then core and panel change
 pub data Intake : Type 0 where
   TakesText : Intake
   Changes : (c : Change) → Intake
 
--- a digit is stored, where there is such a position
+-- a digit is stored at a, if core has this position; otherwise stop 2
 abbrev pub store_in : ℕ → ℕ → Digit → Trace Change ⊤ Stop → Trace Change ⊤ Stop
 store_in n a d t = if nat_lt a n then store_first a d t else ends (Err Address)
 
@@ -57,13 +57,13 @@ pub record Desk : Type 0 where
   pub panel : Panel
   pub left : List Entry
 
--- after one effect of a reading
+-- a desk after one effect of a reading
 abbrev pub desk_after_one : Desk → Intake → Desk
 desk_after_one d TakesText = record d { left = behind d.left }
 desk_after_one d (Changes (StoresCell s)) = record d { core = store d.core s.at s.digit }
 desk_after_one d (Changes (Lights l)) = record d { panel = set l.code l.to d.panel }
 
--- after all of them
+-- a desk after some effects of a reading
 abbrev pub desk_after : Desk → List Intake → Desk
 desk_after d [] = d
 desk_after d (e ∷ es) = desk_after (desk_after_one d e) es

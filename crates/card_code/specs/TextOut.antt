@@ -23,7 +23,7 @@ abbrev pub with_pair : {A E : Type 0} → Option ℕ → (ℕ → Trace Output A
 with_pair (Some c) f = f c
 with_pair None f = does (Warns (lamp_on WRITE_CHECK)) (f 32)
 
--- the character that a pair is written as, and the panel once it was read
+-- the character that a pair is written as, and the panel after the pair was read
 abbrev pub written_char : Option ℕ → ℕ
 written_char (Some c) = c
 written_char None = 32

@@ -15,7 +15,7 @@ digit_of_entry c = if c == 0 then None else Some (digit_of_cell c)
 abbrev pub digit_entry : List ℕ → ℕ → Option Digit
 digit_entry table c = digit_of_entry (slice_index table c)
 
--- the character of a digit by a table of the characters of cells: of the two cells that differ in the bit C alone one has none
+-- the character of a digit by a table of the characters of cells; of the two cells that differ in the bit C alone, one has no character
 abbrev pub char_entry : List ℕ → Digit → ℕ
 char_entry table d =
     if nat_lt (slice_index table (low_bits d)) 128 then slice_index table (low_bits d) else slice_index table (low_bits d + 32) % 128
@@ -81,7 +81,7 @@ abbrev pub PutsChars : (Digit → ℕ) → ℕ → List ℕ → Bool → Type 0
 PutsChars char_of w text true = AreChars char_of w text
 PutsChars char_of w text false = HasBad w
 
--- the same by a table
+-- a text has a table's characters of a word's cells, or one of the cells has no character
 abbrev pub PutsEntries : List ℕ → ℕ → List ℕ → Bool → Type 0
 PutsEntries table w text true = AreCharEntries table w text
 PutsEntries table w text false = HasNoChar table w

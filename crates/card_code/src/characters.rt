@@ -1,4 +1,4 @@
-// The characters that stand for one digit.
+// The characters of single digits.
 
 ghost use Rattle.std.specs.Prelude.{◌≡◌, ◌<◌, IfSome};
 ghost use Rattle.digit_core.specs.Cell.{IsGood};
@@ -10,10 +10,10 @@ use digit_core::Digit;
 
 /// The digit of a character of a card or a keyboard line, read numerically.
 ///
-/// The object characters are the digits that they stand for; letters, a blank and some signs are read by their holes, as `A` and `S`,
-/// which are 1 and 2. docs/formats.md has the table. `None` for a byte that is not in it, which a reading instruction takes for an
-/// unflagged 0 with the read check on.
-/// Source: CPU manual, card codes; the characters that no manual has, and which bytes are none, are this project's own.
+/// An object character is read as its digit; letters, a blank and some signs are read by their holes, as `A` and `S`, which are 1 and
+/// 2. docs/formats.md has the table. `None` for a byte that is not in the table: a reading instruction stores an unflagged 0 for it,
+/// and turns on the read check.
+/// Source: CPU manual, card codes; the characters that no manual has, and which bytes have no digit, are this project's own.
 pub fn num_of(c: u8) -> Option<Digit>
     ensures is { result ≡ num_of c }
     ensures good { IfSome result IsGood }
@@ -24,7 +24,7 @@ pub fn num_of(c: u8) -> Option<Digit>
 /// The digit of an object character: a character that a digit is typed, punched or printed as.
 ///
 /// `0` to `9` are themselves, `]` and `J` to `R` the flagged 0 to 9, `|`, `@` and `}` the record mark, the numerical blank and the
-/// group mark, and `!`, `*` and `"` the same with a flag. `None` for any other byte.
+/// group mark, and `!`, `*` and `"` these three with a flag. `None` for any other byte.
 /// Source: CPU manual, typewriter codes; the characters of flags and marks are this project's own.
 pub fn object_digit(c: u8) -> Option<Digit>
     ensures is { result ≡ object_digit c }
@@ -35,7 +35,7 @@ pub fn object_digit(c: u8) -> Option<Digit>
 
 /// The object character of a digit that a cell can hold.
 ///
-/// It is the one character that [`object_digit`] reads as this digit, and [`num_of`] reads it so too.
+/// It is the only character that [`object_digit`] reads as this digit, and [`num_of`] reads it as this digit too.
 /// Source: CPU manual, typewriter codes; the characters of flags and marks are this project's own.
 pub fn object_char(d: Digit) -> u8
     requires { IsGood d }
@@ -46,8 +46,8 @@ pub fn object_char(d: Digit) -> u8
 
 /// The character that a digit that a cell can hold is punched as.
 ///
-/// It is the digit's object character, but an unflagged numerical blank is punched as a blank, which no hole stands for. The flagged
-/// one keeps its `*`.
+/// It is the digit's object character, but an unflagged numerical blank is punched as a blank, a column without holes. A flagged
+/// numerical blank is punched as `*`.
 /// Source: 1622 manual, numerical writing; the characters of flags and marks are this project's own.
 pub fn punch_num(d: Digit) -> u8
     requires { IsGood d }
@@ -56,7 +56,7 @@ pub fn punch_num(d: Digit) -> u8
     char_entry(&PUNCH_CHARS, d)
 }
 
-// The digit of a character by a table of cells, where it has one.
+// The digit of a character by a table of cells, if it has one.
 #[inline(always)]
 fn digit_entry(table: &[u8; 256], c: u8) -> Option<Digit>
     ensures { result ≡ digit_entry table.now c }

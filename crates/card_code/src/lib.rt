@@ -1,8 +1,8 @@
 //! Cards and lines: the characters of digits, the lines of a unit, and a tally of bad characters.
 //!
-//! A card has 80 columns, each with one character. Read numerically a character stands for one digit with its flag; the object
-//! characters are those that a digit is typed, punched or printed as. Decks, data and keyboard lines come as lines of bytes, each of
-//! which stands for a card or for what is typed up to the release key.
+//! A card has 80 columns, each with one character. Read numerically, a character is one digit with its flag. A digit is typed, punched
+//! or printed as its object character. Decks, data and keyboard input are lines of bytes: a line is a card, or the characters that are
+//! typed before the release key.
 #![tactic(auto)]
 
 mod characters;

@@ -11,14 +11,14 @@ use arrayvec::ArrayVec;
 use memchr::memchr;
 use outside_io::{Host, Take, Unit, without_return};
 
-/// What comes of reading a line.
+/// The answer of a call that reads a line.
 #[derive(Clone, Copy, Debug)]
 pub enum LineAnswer {
-    /// The next line, which is taken.
+    /// The next line. It is taken.
     Line(Line),
     /// No line is left.
     End,
-    /// The next line is over 80 bytes, and stays where it is. This is its number in its unit, counted from 1.
+    /// The next line is over 80 bytes, and is not taken. This is its number in its unit, counted from 1.
     Jam(u64),
     /// The host failed.
     Failed,
@@ -35,18 +35,18 @@ pub enum More {
     Failed,
 }
 
-// The room for a line: its 80 bytes, a CR, and one byte more by which it is known to be too long.
+// The room for a line: its 80 bytes, a CR, and one byte more, which shows that the line is too long.
 const LINE_ROOM: usize = 82;
 
-// The room for what is taken from the host at once. With a line's it is 4,096 bytes.
+// The room for the bytes that one call takes from the host. With `LINE_ROOM` it is 4,096 bytes.
 const PIECE_ROOM: usize = 4014;
 
 /// The lines of an input unit, handed out one after another.
 ///
-/// A line is ended by a LF; a last line without LF counts where it has a byte. One CR at the end of a line is dropped. However the
-/// host cuts the unit's bytes, the lines are the same. At most 4,096 bytes are taken from the unit and not handed out yet.
+/// A LF ends a line; a last line without LF counts if it has a byte. One CR at the end of a line is dropped. However the host cuts the
+/// unit's bytes into pieces, the lines are the same. At most 4,096 bytes are taken from the unit and not handed out yet.
 ///
-/// A caller that stores characters of a line tallies the bad ones by [`Lines::take_up`].
+/// A caller that stores characters of a line tallies the bad ones with [`Lines::take_up`].
 #[derive(Drop)]
 pub struct Lines {
     unit: Unit,
@@ -70,7 +70,7 @@ impl Lines {
     ghost use Rattle.card_code.specs.Readings.{no_bad};
     ghost use Rattle.card_code.specs.Holding.{HoldsMore, HandsOut, EndsNext};
 
-    /// The lines of what a unit has left, of which none is handed out yet, and none asked for.
+    /// The lines that a unit has left. No line is handed out yet, and the host was not asked for any.
     ///
     /// `unit` is an input.
     pub fn new(unit: Unit) -> Lines
@@ -96,13 +96,13 @@ impl Lines {
 
     /// Hands out the next line, which is then gone.
     ///
-    /// `End` exactly where nothing is left. `Jam` exactly where the next line is over 80 bytes; it stays, so each later call answers
-    /// the same. `Failed` only where the host's count of faults rose; the lines that are left are then as before.
+    /// `End` exactly if nothing is left. `Jam` exactly if the next line is over 80 bytes; the line stays, so each later call answers
+    /// `Jam` too. `Failed` only if the host's count of faults rose; the lines that are left are then as before.
     ///
-    /// Nothing is taken early: the host is asked only while no LF is held, and not where 82 bytes are held, which no line has. So a line
-    /// is handed out before the host is asked for anything behind the piece that ends it, and within one call the host is asked no more
-    /// once it has found the unit's end. That holds of all that was asked since the reader was made, and not of this call alone: the unit was
-    /// asked for no more than the lines that were handed out and the next one need, and one look of [`Lines::more`] behind each line.
+    /// No byte is taken early: the host is asked only while the bytes held have no LF and are fewer than 82, more than any line has. So a
+    /// line is handed out before the host is asked for bytes after the piece that ends it, and a call does not ask again after the host
+    /// found the unit's end. This holds for all calls since the reader was made: the unit was asked only when the lines handed out or the
+    /// next line needed bytes, and once by [`Lines::more`] after each line.
     #[tactic(auto, using(crate::proofs::Readers::short))]
     pub fn next_line<H: Host>(&mut self, host: &mut H) -> LineAnswer
         ensures line { NextLine self.old self.new (H.seen host.old) (H.seen host.new) result }
@@ -139,7 +139,7 @@ impl Lines {
 
     /// Whether a byte is left. The lines that are left stay as they are.
     ///
-    /// `Failed` only where the host's count of faults rose. Where a byte is held the host isn't asked, and else once.
+    /// `Failed` only if the host's count of faults rose. If a byte is held, the host isn't asked; otherwise it is asked once.
     #[tactic(auto, using(crate::proofs::Readers::short))]
     pub fn more<H: Host>(&mut self, host: &mut H) -> More
         ensures more { HasMore self.old self.new (H.seen host.old) (H.seen host.new) result }
@@ -167,8 +167,8 @@ impl Lines {
         }
     }
 
-    /// How many lines were handed out since the reader was made. The one that was handed out last has this number in its unit. The count
-    /// stays at its end, 2^64 - 1.
+    /// How many lines were handed out since the reader was made: the number that the last of them has in its unit. The count stops at
+    /// 2^64 - 1.
     pub fn handed_out(&self) -> u64
         ensures { result ≡ lines_handed_out self.now }
     {
@@ -208,7 +208,7 @@ impl Lines {
         found.is_some()
     }
 
-    // Hands out what is held, with the LF behind it where one stands next.
+    // Hands out `held` as a line, and skips the LF after it if `ends` says that it is next.
     fn hand_out(&mut self, ends: bool) -> LineAnswer
         requires { EndsNext self.old ends }
         ensures { HandsOut self.old self.new ends result }

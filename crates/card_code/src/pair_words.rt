@@ -5,7 +5,7 @@ ghost use Rattle.card_code.specs.Words.{ArePairCells, HasNoPair, ArePairEntries,
 
 use crate::tables::{NO_PAIR, PAIR_CELLS};
 
-// The word of the cells of five characters' pairs, the first zone as its lowest cell; `None` where one of them has no pair.
+// The word of the cells of five characters' pairs, the first zone as its lowest cell; `None` if one of them has no pair.
 #[inline]
 pub(crate) fn pair_word(text: &[u8]) -> Option<u64>
     requires { length text.now ≡ 5 }
@@ -14,7 +14,7 @@ pub(crate) fn pair_word(text: &[u8]) -> Option<u64>
     pairs_by(&PAIR_CELLS, text)
 }
 
-// The word of five characters' pairs by a table, where each has one.
+// The word of five characters' pairs by a table, if each has one.
 #[inline]
 fn pairs_by(table: &[u16; 256], text: &[u8]) -> Option<u64>
     requires { length text.now ≡ 5 }

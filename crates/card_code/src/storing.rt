@@ -13,7 +13,7 @@ use addr_indirect::Stop;
 use digit_core::{Core, Digit};
 use indicators::{Panel, READ_CHECK};
 
-// What a bad character is read as.
+// The digit that is stored for a bad character.
 const ZERO: Digit = Digit {
     flag: false,
     value: 0,
@@ -21,10 +21,10 @@ const ZERO: Digit = Digit {
 
 /// Stores the digits of a text that is read numerically from `a` upwards, one digit for each character.
 ///
-/// `a` is below the size of core, and the text has at most 80 characters. A bad character is stored as an unflagged 0, and the read
-/// check 06 goes on as it is stored; it stays on where a later digit stops.
+/// `a` is below the size of core, and the text has at most 80 characters. A bad character is stored as an unflagged 0, and turns on the
+/// read check 06 at once; 06 stays on also if a later digit stops.
 ///
-/// Stops: 2 where a digit's position is past the end of core; the digits before it stay.
+/// Stops: 2 if a digit's position is past the end of core; the digits before it stay.
 /// Source: 1622 manual, numerical reading; what a bad character is stored as, and the order, are this project's own.
 pub fn store_digits<const M: u32>(
     core: &mut Core<M>,
@@ -57,8 +57,8 @@ pub fn store_digits<const M: u32>(
     Ok(())
 }
 
-// The word of the ten characters from number `k` on that are to be stored from `at` upwards, in a core that ends at `end`: where there
-// are so many, core has room for them, and none is bad.
+// The word of the ten characters from number `k` on, which are to be stored from `at` upwards in a core that ends at `end`: if the text
+// has them, core has room for them, and none is bad.
 #[inline]
 fn word_from(text: &[u8], k: usize, at: u32, end: u32) -> Option<u64>
     requires within { k ≤ length text.now }
@@ -99,10 +99,10 @@ fn store_digit<const M: u32>(
 
 /// Stores the pairs of a text that is read alphamerically from `a` upwards, two digits for each character, the zone first.
 ///
-/// `a` is below the size of core, and the text has at most 80 characters. The digits have no flag, whatever stood there. A bad
-/// character is stored as 00, and the read check 06 goes on as its first digit is stored; it stays on where a later digit stops.
+/// `a` is below the size of core, and the text has at most 80 characters. The digits are stored without flags. A bad character is
+/// stored as 00, and turns on the read check 06 as its first digit is stored; 06 stays on also if a later digit stops.
 ///
-/// Stops: 2 where a digit's position is past the end of core; the digits before it stay.
+/// Stops: 2 if a digit's position is past the end of core; the digits before it stay.
 /// Source: 1622 manual, alphameric reading; that the digits have no flag, what a bad character is stored as, and the order, are this project's own.
 pub fn store_pairs<const M: u32>(
     core: &mut Core<M>,
@@ -136,8 +136,8 @@ pub fn store_pairs<const M: u32>(
     Ok(())
 }
 
-// The word of the pairs of the five characters from number `k` on that are to be stored from `at` upwards, in a core that ends at
-// `end`: where there are so many, core has room for them, and each has a pair.
+// The word of the pairs of the five characters from number `k` on, which are to be stored from `at` upwards in a core that ends at
+// `end`: if the text has them, core has room for them, and each has a pair.
 #[inline]
 fn pairs_from(text: &[u8], k: usize, at: u32, end: u32) -> Option<u64>
     requires within { k ≤ length text.now }
@@ -151,7 +151,7 @@ fn pairs_from(text: &[u8], k: usize, at: u32, end: u32) -> Option<u64>
     pair_word(&text[k..k + 5])
 }
 
-// Stores the pair of one character at `at` and behind it, in a core that ends at `end`.
+// Stores the pair of one character at `at` and `at + 1`, in a core that ends at `end`.
 fn store_pair<const M: u32>(
     core: &mut Core<M>,
     end: u32,

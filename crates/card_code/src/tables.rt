@@ -1,15 +1,15 @@
 // The card code, in four tables: the cell and the pair of a byte, and the byte of a cell and of a pair.
 
-// What a table has for a character that has no cell: it's no good cell.
+// The entry of a character without a cell: not a good cell.
 pub(crate) const NO_CELL: u8 = 0;
 
-// What a table has for a character that has no pair: it's past all pairs of cells.
+// The entry of a character without a pair: past all pairs of cells.
 pub(crate) const NO_PAIR: u16 = 4096;
 
-// What a table has for a cell or a pair that has no character: it's past all characters.
+// The entry of a cell or a pair without a character: past all characters.
 pub(crate) const NO_CHAR: u8 = 128;
 
-// The cell of each character. Those of the characters that are no object characters, but are read numerically, have the bits of `$only`.
+// The cell of each character. `$only` masks the cells of characters that are read numerically but are not object characters.
 macro_rules! cells_of_chars {
     ($only:expr) => {
         [
@@ -43,7 +43,7 @@ macro_rules! cells_of_chars {
     };
 }
 
-// The character of each cell. `$blank` is that of an unflagged numerical blank.
+// The character of each cell. `$blank` is the character of an unflagged numerical blank.
 macro_rules! chars_of_cells {
     ($blank:expr) => {
         [

@@ -39,12 +39,12 @@ pub struct BadCharacter {
 pub struct Tally {
     /// The first of them, if there was one.
     pub first: Option<BadCharacter>,
-    /// How many there were; no more than it has room for.
+    /// How many there were. The count stops at 2^64 - 1.
     pub count: u64,
 }
 
 impl Tally {
-    /// Before anything is read.
+    /// The tally before anything is read.
     ///
     /// Source: this project's own.
     pub fn new() -> Tally
@@ -56,9 +56,9 @@ impl Tally {
         }
     }
 
-    /// Takes up the bad ones of some characters that were read so, from column 1 on, one after another.
+    /// Tallies the bad ones of some characters, from column 1 on, one after another.
     ///
-    /// `unit` and `line` are those of the card or the line of the keyboard on which they stand.
+    /// `how` says how they were read. `unit` and `line` are the unit of their card or keyboard line, and its number there.
     /// Source: this project's own.
     pub fn take_up(&mut self, unit: Unit, line: u64, how: ReadAs, text: &[u8])
         requires { length text.now ≤ 80 }
@@ -78,7 +78,7 @@ impl Tally {
         }
     }
 
-    // Takes up one bad character.
+    // Tallies one bad character.
     fn add(&mut self, bad: BadCharacter)
         ensures { self.new ≡ with_one bad self.old }
     {

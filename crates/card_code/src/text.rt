@@ -43,7 +43,7 @@ impl Line {
 
     /// The card that has this text, filled with blanks to its 80 columns.
     ///
-    /// Source: 1622 manual, card format; that a line stands for a card is this project's own.
+    /// Source: 1622 manual, card format; that a line is read as a card is this project's own.
     pub fn to_card(&self) -> Card
         ensures { result.0 ≡ text_as_card (text_of_line self.now) }
     {

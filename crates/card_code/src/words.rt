@@ -10,7 +10,7 @@ use digit_core::are_good;
 
 /// The word of the cells of ten object characters, the first as its lowest cell.
 ///
-/// `text` has ten characters. `None` where one of them is no object character.
+/// `text` has ten characters. `None` if one of them is not an object character.
 /// Source: CPU manual, typewriter codes; the characters of flags and marks are this project's own.
 #[inline]
 pub fn object_word(text: &[u8]) -> Option<u64>
@@ -22,7 +22,7 @@ pub fn object_word(text: &[u8]) -> Option<u64>
     word_by(&OBJECT_CELLS, text)
 }
 
-// The word of the cells of ten characters that are read numerically, the first as its lowest cell; `None` where one of them is bad.
+// The word of the cells of ten characters that are read numerically, the first as its lowest cell; `None` if one of them is bad.
 #[inline]
 pub(crate) fn num_word(text: &[u8]) -> Option<u64>
     requires { length text.now ≡ 10 }
@@ -31,7 +31,7 @@ pub(crate) fn num_word(text: &[u8]) -> Option<u64>
     word_by(&NUM_CELLS, text)
 }
 
-// The word of ten characters' cells by a table, where each has one.
+// The word of ten characters' cells by a table, if each has one.
 #[inline]
 fn word_by(table: &[u8; 256], text: &[u8]) -> Option<u64>
     requires sixes { AreSixes table.now }
@@ -39,7 +39,7 @@ fn word_by(table: &[u8; 256], text: &[u8]) -> Option<u64>
     ensures { MatchOption result (HasNoEntry table.now text.now) (AreEntries table.now text.now) }
 {
     let mut word = 0;
-    // A character that has no cell leaves a bad one.
+    // A character without a cell leaves a bad cell in the word.
     for j in 0..10 {
         word |= u64::from(table[text[j] as usize]) << (6 * j);
     }
@@ -48,7 +48,7 @@ fn word_by(table: &[u8; 256], text: &[u8]) -> Option<u64>
 
 /// The object characters of a word's ten cells, the lowest cell's first.
 ///
-/// `None` where one of the cells is bad.
+/// `None` if one of the cells is bad.
 /// Source: CPU manual, typewriter codes; the characters of flags and marks are this project's own.
 #[inline]
 pub fn object_chars(word: u64) -> Option<[u8; 10]>
@@ -64,7 +64,7 @@ pub fn object_chars(word: u64) -> Option<[u8; 10]>
 
 /// Puts the object characters of a word's ten cells into a text of ten bytes, the lowest cell's first.
 ///
-/// `false` where one of the cells is bad; then nothing is said of the text.
+/// `false` if one of the cells is bad; then the bytes of the text are not defined.
 /// Source: CPU manual, typewriter codes; the characters of flags and marks are this project's own.
 #[inline]
 pub fn put_object_chars(word: u64, into: &mut [u8]) -> bool
@@ -77,7 +77,7 @@ pub fn put_object_chars(word: u64, into: &mut [u8]) -> bool
 
 /// The characters that the digits of a word's ten cells are punched as, the lowest cell's first.
 ///
-/// `None` where one of the cells is bad.
+/// `None` if one of the cells is bad.
 /// Source: 1622 manual, numerical writing; the characters of flags and marks are this project's own.
 #[inline]
 pub fn punch_chars(word: u64) -> Option<[u8; 10]>
@@ -93,7 +93,7 @@ pub fn punch_chars(word: u64) -> Option<[u8; 10]>
 
 /// Puts the characters that the digits of a word's ten cells are punched as into a text of ten bytes, the lowest cell's first.
 ///
-/// `false` where one of the cells is bad; then nothing is said of the text.
+/// `false` if one of the cells is bad; then the bytes of the text are not defined.
 /// Source: 1622 manual, numerical writing; the characters of flags and marks are this project's own.
 #[inline]
 pub fn put_punch_chars(word: u64, into: &mut [u8]) -> bool
@@ -104,7 +104,7 @@ pub fn put_punch_chars(word: u64, into: &mut [u8]) -> bool
     put_by(&PUNCH_CHARS, word, into)
 }
 
-// Puts the characters of a word's ten cells by a table into a text, the lowest cell's first. Whether each has one.
+// Puts the characters of a word's ten cells by a table into a text, the lowest cell's first. Whether each cell has a character.
 #[inline]
 fn put_by(table: &[u8; 64], word: u64, into: &mut [u8]) -> bool
     requires { length into.old ≡ 10 }

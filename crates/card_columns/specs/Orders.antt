@@ -1,4 +1,4 @@
--- Digits of a card: numbered, and those of addresses and instructions.
+-- Digits of a card: by their number, and of addresses and instructions.
 use Rattle.std.specs.Prelude.{ℕ, ◌/◌, ◌%◌, List, ◌∷◌, slice_index_or}
 use Rattle.digit_core.specs.declared.Digit.{Digit}
 use Rattle.digit_core.specs.Cell.{unflagged_digit}
@@ -11,7 +11,7 @@ nth ds i = slice_index_or ds i (unflagged_digit 0)
 abbrev pub address_count : ℕ
 address_count = 100000
 
--- the digit of a number at a place, which is worth so much
+-- the digit of a number at a place, by the place's worth: 1, 10, 100 and so on
 abbrev pub at_place : ℕ → ℕ → Digit
 at_place worth a = unflagged_digit (a / worth % 10)
 

@@ -80,7 +80,7 @@ impl Columns {
         }
     }
 
-    /// Adds so many zeros; there is room for them.
+    /// Adds `count` zeros; there is room for them.
     ///
     /// Source: this project's own.
     pub fn zeros(&mut self, count: usize)

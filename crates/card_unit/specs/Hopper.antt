@@ -26,16 +26,16 @@ use Rattle.card_unit.specs.declared.pile.Pile.{Pile}
 use Rattle.card_unit.specs.Front.{front_text}
 use Rattle.card_unit.specs.Pile.{pile_left, pile_cards, IsPileAhead, IsPileInTurn, is_card_unit, LooksAt}
 
--- the front, the pile and the data one after another, where both of these are told
+-- the front, the pile and the data one after another, if the host reveals pile and data
 abbrev pub entries_in_order : List Entry → Option (List Entry) → Option (List Entry) → Option (List Entry)
 entries_in_order front deck rest = option_and_then (λ d. option_map (λ r. front ++ (d ++ r)) rest) deck
 
--- the entry at the front, where a card or the text of a line stands there
+-- the entry at the front, if a card or the text of a line is there
 abbrev pub front_left : Option Front → List Entry
 front_left None = []
 front_left (Some front) = Text (front_text front) ∷ []
 
--- all that is left, where it's told
+-- all entries that are left, if the host reveals them
 abbrev pub hopper_left : Hopper → World → Option (List Entry)
 hopper_left h w = entries_in_order (front_left h.front) (pile_left h.pile w) (entries_left h.data w)
 
@@ -43,19 +43,19 @@ hopper_left h w = entries_in_order (front_left h.front) (pile_left h.pile w) (en
 abbrev pub card_texts : List Card → List (List ℕ)
 card_texts cards = map (λ card. card.0) cards
 
--- these cards and then those of what Data has left, where it's told
+-- these cards and then the cards that Data has left, if the host reveals them
 abbrev pub cards_and_data : List (List ℕ) → World → Option (List Entry)
 cards_and_data cards w = option_map (hopper_of cards []) (w.left units.Data)
 
--- the cards of what Deck has left and then those of what Data has left, where both are told
+-- the cards that Deck has left and then the cards that Data has left, if the host reveals both
 abbrev pub deck_and_data : World → Option (List Entry)
 deck_and_data w = option_and_then (λ deck. option_map (hopper_of [] deck) (w.left units.Data)) (w.left units.Deck)
 
--- the cards that were put into its pile, those that are gone among them; None where its pile is the lines of Deck
+-- all cards that were put into its pile, taken or not; None if its pile is the lines of Deck
 abbrev pub own_cards : Hopper → Option (List (List ℕ))
 own_cards h = pile_cards h.pile
 
--- what is left behind the front, where it's told
+-- the entries that follow the front, if the host reveals them
 abbrev pub behind_left : Hopper → World → Option (List Entry)
 behind_left h w = entries_in_order [] (pile_left h.pile w) (entries_left h.data w)
 
@@ -67,7 +67,7 @@ LooksAtHopper before after = LooksAt is_card_unit before after
 abbrev pub hopper_feed : Feed Hopper Taken
 hopper_feed = record { left = hopper_left; Looks = LooksAtHopper; next = next_card }
 
--- how the taking of a card ended; None where the host failed
+-- how the taking of a card ended; None if the host failed
 abbrev pub card_ending : CardAnswer → Option (Result Taken Break)
 card_ending (answer.Card card last) = Some (Ok (record { text = card.0; last = last }))
 card_ending answer.Empty = Some (Err Empty)
@@ -78,37 +78,37 @@ card_ending answer.Failed = None
 abbrev pub NextCard : Hopper → Hopper → Seen → Seen → CardAnswer → Type 0
 NextCard old new before after got = TakesNext hopper_feed old new before after (card_ending got)
 
--- what comes of holding the next card
+-- how the holding of the next card ends, by its answer
 abbrev pub Holds : Hopper → Hopper → Seen → Seen → Held → Type 0
 Holds old new before after held.AtFront = Stays hopper_feed old new before after
 Holds old new before after held.Empty = Lacks hopper_feed old new before after Empty
 Holds old new before after (held.Jam u n) = Lacks hopper_feed old new before after (JamsAt u n)
 Holds old new before after held.Failed = FailsToTake hopper_feed old new before after
 
--- whether nothing stands behind the front
+-- the hopper stays, and `none` is whether nothing follows the front
 pub record SaysBehind (old new : Hopper) (before after : Seen) (none : Bool) : Type 0 where
   pub stays : Stays hopper_feed old new before after
   pub front : new.front ≡ old.front
   pub says : IfSome (behind_left new after.world) (λ es. has_none_left es ≡ none)
 
--- what the look behind the front does
+-- whether anything follows the front, by the answer of the look
 abbrev pub HasBehind : Hopper → Hopper → Seen → Seen → More → Type 0
 HasBehind old new before after more.Yes = SaysBehind old new before after false
 HasBehind old new before after more.No = SaysBehind old new before after true
 HasBehind old new before after more.Failed = FailsToTake hopper_feed old new before after
 
--- The deck, which is what stands before the cards of Data.
+-- The deck: the entries before the cards of Data.
 
--- the entries of the deck, where they're told: those of the front and of the pile
+-- the entries of the deck, if the host reveals them: the front and the pile
 abbrev pub deck_left : Hopper → World → Option (List Entry)
 deck_left h w = option_map (λ d. front_left h.front ++ d) (pile_left h.pile w)
 
--- so many entries at least are told
+-- the host reveals at least n entries
 abbrev pub TellsAtLeast : ℕ → Option (List Entry) → Type 0
 TellsAtLeast n None = ⊥
 TellsAtLeast n (Some es) = n ≤ length es
 
--- so many entries at least are told in the deck
+-- the host reveals at least n entries of the deck
 abbrev pub HasInDeck : ℕ → Hopper → Seen → Type 0
 HasInDeck n h s = TellsAtLeast n (deck_left h s.world)
 
@@ -117,7 +117,7 @@ pub record DataStays (before after : Seen) : Type 0 where
   pub left : after.world.left units.Data ≡ before.world.left units.Data
   pub asked : after.world.asked units.Data ≡ before.world.asked units.Data
 
--- Data isn't asked where so many entries at least are told in the deck
+-- Data isn't asked if the host reveals at least n entries of the deck
 abbrev pub LeavesData : ℕ → Hopper → Seen → Seen → Type 0
 LeavesData n old before after = HasInDeck n old before → DataStays before after
 
@@ -125,35 +125,35 @@ LeavesData n old before after = HasInDeck n old before → DataStays before afte
 abbrev pub DeckStays : Hopper → Hopper → Seen → Seen → Type 0
 DeckStays old new before after = deck_left new after.world ≡ deck_left old before.world
 
--- this entry is the first of some, if they have one
+-- this entry is the first of some entries, if there are any
 abbrev pub FrontIs : Entry → List Entry → Type 0
 FrontIs first [] = ⊤
 FrontIs first (e ∷ es) = e ≡ first
 
--- so is the card of this text; it isn't the last where another entry stands behind it
+-- this card is the first of some entries, if there are any; it isn't the last if another entry follows it
 abbrev pub CardIs : List ℕ → Bool → List Entry → Type 0
 CardIs text last [] = ⊤
 CardIs text last (Text t ∷ es) = (text ≡ text_as_card t) × (has_none_left es ≡ false → last ≡ false)
 CardIs text last (Long u n ∷ es) = ⊥
 
--- the deck's first card is taken, or one of Data where the deck has none
+-- the deck's first card is taken, or a card of Data if the deck is empty
 pub record DeckGives (old new : Hopper) (before after : Seen) (text : List ℕ) (last : Bool) : Type 0 where
   pub left : deck_left new after.world ≡ option_map behind (deck_left old before.world)
   pub first : IfSome (deck_left old before.world) (CardIs text last)
 
--- none is taken, and the deck, where it's told, is so
+-- no card is taken, and IsSo holds for the deck, if the host reveals it
 pub record DeckLacks (old new : Hopper) (before after : Seen) (IsSo : List Entry → Type 0) : Type 0 where
   pub stays : DeckStays old new before after
   pub so : IfSome (deck_left old before.world) IsSo
 
--- what the taking of a card does to the deck; where the host fails on an empty deck, a card of Data may have come to the front
+-- what the taking of a card does to the deck; if the host fails and the deck is empty, a card of Data may have come to the front
 abbrev pub NextOfDeck : Hopper → Hopper → Seen → Seen → CardAnswer → Type 0
 NextOfDeck old new before after (answer.Card card last) = DeckGives old new before after card.0 last
 NextOfDeck old new before after answer.Empty = DeckLacks old new before after (λ es. es ≡ [])
 NextOfDeck old new before after (answer.Jam u n) = DeckLacks old new before after (FrontIs (Long u n))
 NextOfDeck old new before after answer.Failed = HasInDeck 1 old before → DeckStays old new before after
 
--- what is at the front is the deck's first, if it has one, and the pile is what stands behind it
+-- the front is the deck's first entry, if there is any, and the pile has the entries after it
 pub record DeckHolds (old new : Hopper) (before after : Seen) : Type 0 where
   pub held : Front
   pub front : new.front ≡ Some held
@@ -167,7 +167,7 @@ HoldsOfDeck old new before after held.Empty = DeckLacks old new before after (λ
 HoldsOfDeck old new before after (held.Jam u n) = DeckLacks old new before after (FrontIs (Long u n))
 HoldsOfDeck old new before after held.Failed = DeckStays old new before after
 
--- the look behind the front leaves the deck, and Data too where the pile has an entry
+-- the look after the front leaves the deck as it is, and Data too if the host reveals an entry of the pile
 pub record LooksBehind (old new : Hopper) (before after : Seen) (got : More) : Type 0 where
   pub front : new.front ≡ old.front
   pub left : pile_left new.pile after.world ≡ pile_left old.pile before.world
@@ -176,28 +176,28 @@ pub record LooksBehind (old new : Hopper) (before after : Seen) (got : More) : T
 
 -- Cards that are asked for one ahead: the look for the last-card indicator.
 
--- the pile's lines are one ahead at most; and in turn where a card stands at the front, behind which that look has still to be made
+-- the pile's lines are one ahead at most, and in turn if a card is at the front, since the look after this card is still to come
 abbrev pub IsPileReady : Option Front → Pile → World → Type 0
 IsPileReady None pile w = IsPileAhead pile w
 IsPileReady (Some front) pile w = IsPileInTurn pile w
 
--- Data is in turn, where no look at it was made: while the pile has a card, or one stands at the front
+-- Data is in turn while the pile has a card or a card is at the front: no look at Data was made yet
 abbrev pub IsDataLater : Option Front → Lines → World → List Entry → Type 0
 IsDataLater front reader w left = lines.IsInTurn reader w ⊎ ((left ≡ []) × (front ≡ None))
 
--- A HOPPER ONE AHEAD: no card was asked for before its turn. Deck and Data were asked for no more than the cards that were taken and the next one
--- need, and for one look behind each card that was taken at whether a byte is left. A card that stands at the front, where the host failed in
--- that look, was to be taken next. Where the pile is told, no look was made at Data while the pile had another card.
+-- A HOPPER ONE AHEAD: no card was asked for early. Deck and Data were asked only when the cards taken or the next card needed bytes,
+-- and once after each card taken: the look whether a byte is left. If the host failed in this look, the card is still at the front,
+-- and is taken next. If the host reveals the pile, no look was made at Data while the pile had another card.
 pub record IsHopperAhead (h : Hopper) (w : World) : Type 0 where
   pub pile : IsPileReady h.front h.pile w
   pub reader : lines.IsOneAhead h.data w
   pub later : IfSome (pile_left h.pile w) (IsDataLater h.front h.data w)
 
--- that stays so
+-- a hopper that is one ahead stays one ahead
 abbrev pub KeepsAhead : Hopper → Hopper → Seen → Seen → Type 0
 KeepsAhead old new before after = IsHopperAhead old before.world → IsHopperAhead new after.world
 
--- what the look behind the front leaves one ahead: the hopper once its card is taken, or as it stands where the host failed
+-- after the look, the hopper is one ahead: without its front card, or with it if the host failed
 abbrev pub IsAheadBehind : Hopper → World → More → Type 0
 IsAheadBehind h w more.Failed = IsHopperAhead h w
 IsAheadBehind h w got = IsHopperAhead (record h { front = None }) w
@@ -208,7 +208,7 @@ IsAheadBehind h w got = IsHopperAhead (record h { front = None }) w
 abbrev pub cards_read : Hopper → CardsRead
 cards_read h = h.read
 
--- the bad characters of these
+-- the tally of the bad characters of these cards
 abbrev pub bad_cards : Hopper → Tally
 bad_cards h = h.bad
 
@@ -216,25 +216,25 @@ bad_cards h = h.bad
 abbrev pub line_read : Hopper → ℕ
 line_read h = last_card_number h.from h.read
 
--- what stood in a hopper as it was made, where that was told: the entries of its pile, and all of its entries
+-- the entries of a hopper when it was made, if the host revealed them: the entries of its pile, and all entries
 pub record Start : Type 0 where
   pub pile : List Entry
   pub all : List Entry
 
--- the unit of a card: Deck, in whose place a list of cards stands, or Data
+-- the unit of a card: Data, or Deck, also for a list of cards
 abbrev pub IsOfCards : unit.Unit → Type 0
 IsOfCards u = (u ≡ units.Deck) ⊎ (u ≡ units.Data)
 
--- of so many cards in a pile so many are still to be read: those that are left, and one more where one of them stands at the front; where one
--- of Data stands there, none
+-- `to_come` cards of the pile are still to be read: the `left` cards in it, and one more if a card of the pile is at the front;
+-- none if a card of Data is at the front
 abbrev pub AreToCome : Option Front → unit.Unit → ℕ → ℕ → Type 0
 AreToCome None u left to_come = left ≡ to_come
 AreToCome (Some front) units.Data left to_come = (left ≡ 0) × (to_come ≡ 0)
 AreToCome (Some front) u left to_come = left + 1 ≡ to_come
 
--- WHAT A HOPPER HAS READ since it was made, by the readings of its cards in their order: they are numbered as the cards of their units, and
--- the tally is of the bad characters that were stored of them. Where the cards that it had were told, those that were read and those that are
--- left are all of them. No card was asked for before its turn.
+-- WHAT A HOPPER HAS READ since it was made: the readings of its cards, in their order. They are numbered as the cards of their units,
+-- and the tally has their bad characters that were stored. If the host reveals the cards, the cards read and the cards left are all
+-- that the hopper had. No card was asked for early.
 pub record HasReadCardsBy (start : Start) (readings : List Reading) (h : Hopper) (w : World) : Type 0 where
   pub ahead : IsHopperAhead h w
   pub numbered : AreNumbered readings no_lines
@@ -247,27 +247,27 @@ pub record HasReadCardsBy (start : Start) (readings : List Reading) (h : Hopper)
   pub from : IsOfCards h.from
   pub to_come : IfSome (pile_left h.pile w) (λ left. AreToCome h.front h.from (length left) (length start.pile - length readings))
 
--- it has read some cards
+-- a hopper has read some cards
 pub record HasReadCards (start : Start) (h : Hopper) (w : World) : Type 0 where
   pub readings : List Reading
   pub by : HasReadCardsBy start readings h w
 
--- it has read the same cards still
+-- the readings of a hopper stay
 abbrev pub ReadsNoCard : Hopper → Hopper → Seen → Seen → Type 0
 ReadsNoCard old new before after =
     (start : Start) (readings : List Reading) → HasReadCardsBy start readings old before.world → HasReadCardsBy start readings new after.world
 
--- the reading of the card that was taken last, of which nothing was stored yet
+-- the reading of the card that was taken last, before any of it is stored
 abbrev pub reading_of : Hopper → List ℕ → Reading
 reading_of h text = record { unit = h.from; line = line_read h; text = text; how = how.Digit; room = 0 }
 
--- one card more was read; its text is that of the card once it's filled with blanks
+-- one card more was read; its text, filled with blanks, is the card
 pub record ReadsOneMore (start : Start) (readings : List Reading) (h : Hopper) (w : World) (card : List ℕ) : Type 0 where
   pub text : List ℕ
   pub filled : card ≡ text_as_card text
   pub by : HasReadCardsBy start (readings ++ reading_of h text ∷ []) h w
 
--- what the taking of a card adds to what was read: the card that was taken
+-- the taking of a card adds that card to the readings; if no card is taken, they stay
 abbrev pub AddsCard : Start → List Reading → Hopper → World → CardAnswer → Type 0
 AddsCard start readings h w (answer.Card card last) = ReadsOneMore start readings h w card.0
 AddsCard start readings h w got = HasReadCardsBy start readings h w
@@ -276,17 +276,17 @@ abbrev pub ReadsNext : Hopper → Hopper → Seen → Seen → CardAnswer → Ty
 ReadsNext old new before after got =
     (start : Start) (readings : List Reading) → HasReadCardsBy start readings old before.world → AddsCard start readings new after.world got
 
--- what was read, and of which unit the card at the front is, stay as they are
+-- the counts, the tally and the unit of the front card stay as they are
 pub record HasSameRead (old new : Hopper) : Type 0 where
   pub from : new.from ≡ old.from
   pub read : new.read ≡ old.read
   pub bad : new.bad ≡ old.bad
 
--- it goes on with that
+-- if the hopper had read some cards before, it has read some cards after
 abbrev pub GoesOnReadingCards : Hopper → Hopper → Seen → Seen → Type 0
 GoesOnReadingCards old new before after = (start : Start) → HasReadCards start old before.world → HasReadCards start new after.world
 
--- it has read nothing yet
+-- a hopper that has read nothing yet
 abbrev pub IsNewHopper : Hopper → Type 0
 IsNewHopper h = (start : Start) (w : World) → IfSome (deck_left h w) (λ left. start.pile ≡ left) → IfSome (hopper_left h w) (λ left. start.all ≡ left)
     → HasReadCards start h w

@@ -18,22 +18,22 @@ use Rattle.card_unit.specs.declared.pile.Pile.TheVariants as pile
 abbrev pub card_entry : Card → Entry
 card_entry card = Text card.0
 
--- the entries of the pile that are left, where they're told
+-- the entries of the pile that are left, if the host reveals them
 abbrev pub pile_left : Pile → World → Option (List Entry)
 pile_left (pile.Cards cards gone) w = Some (map card_entry (drop gone cards.items))
 pile_left (pile.Deck lines) w = entries_left lines w
 
--- the cards that were put into the pile, those that are gone among them; None where its cards are lines of Deck
+-- all cards that were put into the pile, taken or not; None if the pile is the lines of Deck
 abbrev pub pile_cards : Pile → Option (List (List ℕ))
 pile_cards (pile.Cards cards gone) = Some (map (λ card. card.0) cards.items)
 pile_cards (pile.Deck lines) = None
 
--- the unit of the pile's lines; cards stand in the place of Deck's
+-- the unit of the pile's lines; Deck also for a list of cards
 abbrev pub pile_unit : Pile → unit.Unit
 pile_unit (pile.Cards cards gone) = units.Deck
 pile_unit (pile.Deck lines) = unit_of lines
 
--- the lines of the pile, where its cards are lines of Deck, are one ahead at most, or in turn
+-- the pile is one ahead at most, or in turn, if it is the lines of Deck; a list of cards always is
 abbrev pub IsPileAhead : Pile → World → Type 0
 IsPileAhead (pile.Cards cards gone) w = ⊤
 IsPileAhead (pile.Deck lines) w = IsOneAhead lines w
@@ -55,7 +55,7 @@ pub record LooksAt (reads : unit.Unit → Bool) (before after : Seen) : Type 0 w
   pub later : before.faults ≤ after.faults
   pub keeps : Keeps reads no_unit false before.world after.world
 
--- what the holding of what stands next does to the entries of a pile and to the front
+-- what the holding of the next entry does to the entries of a pile and to the front
 abbrev pub HoldsOfPile : Pile → Pile → Option Front → Option Front → Seen → Seen → Held → Type 0
 HoldsOfPile old new front new_front before after got =
     HoldsNext front new_front (pile_left old before.world) (pile_left new after.world) before after got

@@ -1,4 +1,4 @@
--- Punching cards: 80 bytes and a LF, once all their digits were read.
+-- Punching cards: 80 bytes and a LF, after all their digits were read.
 -- Source: 1622 manual, write numerically, write alphamerically and dump numerically; when a card goes out, and that the
 -- last one is filled with blanks, are this project's own.
 use Rattle.std.specs.Prelude.{ℕ, zero, suc, false, ◌≡◌, ◌<◌, ◌≤◌, ◌+◌, ◌-◌, ◌==◌, List, [], ◌∷◌, ◌++◌, length, map, drop, slice_index, if◌then◌else◌, Result, Ok, ⊤}
@@ -35,7 +35,7 @@ pair_text core a (suc n) = do
 abbrev pub punch_alphameric : List ℕ → ℕ → Trace Output ⊤ Stop
 punch_alphameric core p = and_then (pair_text core (p - 1) 80) (λ text. lift WritesByte (punch_card text (ends (Ok tt))))
 
--- cells from a upwards, 80 on a card, behind the text that the card has so far
+-- cells from a upwards, 80 on a card, after the text that the card has so far
 unfoldable pub dump_card_cells : ℕ → List ℕ → List ℕ → Trace ℕ ⊤ Stop
 dump_card_cells a [] [] = ends (Ok tt)
 dump_card_cells a [] (c ∷ cs) = punch_card (text_as_card (c ∷ cs)) (ends (Ok tt))

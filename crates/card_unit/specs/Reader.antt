@@ -9,7 +9,7 @@ use Rattle.card_code.specs.Break.{Break}
 use Rattle.card_code.specs.{Entry, Taken, next_card, take_next, Intake, store_digits, store_pairs}
 use Rattle.indicators.specs.Codes.{LAST_CARD}
 
--- a card's text is stored, once the last-card indicator is on where the card is the last
+-- a card's text is stored, after the last-card indicator goes on if the card is the last
 abbrev pub store_card : (List ℕ → Trace Change ⊤ Stop) → Taken → Trace Change ⊤ Stop
 store_card stored card = if card.last then light_first LAST_CARD (stored card.text) else stored card.text
 

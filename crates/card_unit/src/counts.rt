@@ -4,7 +4,7 @@ ghost use Rattle.card_unit.specs.Counts.{one_more_read};
 
 use outside_io::Unit;
 
-/// How many cards were read. Each count goes no higher than it has room for.
+/// How many cards were read. Each count stops at 2^64 - 1.
 ///
 /// Source: this project's own.
 #[derive(Clone, Copy, Debug, PartialEq, Eq)]
@@ -22,7 +22,7 @@ pub(crate) const NONE_READ: CardsRead = CardsRead {
 };
 
 impl CardsRead {
-    // One more, of a unit.
+    // The counts after one more card of the unit was read.
     pub(crate) fn one_more_read(self, unit: Unit) -> CardsRead
         ensures { result ≡ one_more_read unit self }
     {

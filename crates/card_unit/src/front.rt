@@ -1,4 +1,4 @@
-// What stands at the front of a hopper.
+// The card or line at the front of a hopper.
 ghost use Rattle.std.specs.Prelude.{◌≡◌};
 ghost use Rattle.card_code.specs.{text_as_card, unit_of, entries_left};
 ghost use Rattle.card_code.specs.Reader.{AsksUnit, IsInTurn, IsOneAhead};
@@ -7,21 +7,21 @@ ghost use Rattle.card_unit.specs.Front.{HoldsNext};
 use card_code::{Card, Line, LineAnswer, Lines};
 use outside_io::{Host, Unit};
 
-// A card, or the text of a line that stands for one.
+// A card, or the text of a line that is read as a card.
 #[derive(Clone, Copy)]
 pub(crate) enum Front {
     Card(Card),
     Line(Line),
 }
 
-// Whether the next card, or the text that stands for it, is at the front, and why not.
+// Whether the next card, or its line, is at the front, and if not, why.
 #[derive(Clone, Copy)]
 pub(crate) enum Held {
-    // It is.
+    // It is at the front.
     AtFront,
-    // None is left.
+    // No card is left.
     Empty,
-    // The next line is over 80 bytes, and stays where it is. It has this number in its unit, counted from 1.
+    // The next line is over 80 bytes, and is not taken. `line` is its number in its unit, counted from 1.
     Jam { unit: Unit, line: u64 },
     // The host failed.
     Failed,
@@ -30,14 +30,14 @@ pub(crate) enum Held {
 impl Front {
     ghost use Rattle.card_unit.specs.Front.{front_text};
 
-    // The card that is taken from there.
+    // The card at the front: itself, or its line filled with blanks.
     #[inline]
     pub(crate) fn to_card(&self) -> Card
         ensures { result.0 ≡ text_as_card (front_text self.now) }
     {
         match self {
             Front::Card(card) => {
-                // For the check alone, which learns from it how many columns a card has: the compiler drops it.
+                // Only for the proof, which learns from this slice how many columns a card has. The compiler drops it.
                 let _columns = &card.0[..80];
                 *card
             }
@@ -46,7 +46,7 @@ impl Front {
     }
 }
 
-// Holds a unit's next line at the front.
+// Moves a unit's next line to the front.
 #[inline]
 pub(crate) fn hold_line<H: Host>(
     front: &mut Option<Front>,

@@ -13,21 +13,21 @@ use crate::pile::Pile;
 use card_code::{Card, Lines, More, ReadAs, Tally};
 use outside_io::{Host, Unit};
 
-/// What comes of taking a card.
+/// The answer of a call that takes a card.
 ///
 /// Source: this project's own.
 #[derive(Clone, Copy, Debug)]
 pub enum CardAnswer {
-    /// The next card, which is taken.
+    /// The next card. It is taken.
     Card {
         /// The card.
         card: Card,
-        /// Whether no byte is left behind it.
+        /// Whether it was the last: no byte follows it.
         last: bool,
     },
     /// No card is left.
     Empty,
-    /// The next line is over 80 bytes, and stays where it is.
+    /// The next line is over 80 bytes, and is not taken.
     Jam {
         /// The line's unit.
         unit: Unit,
@@ -40,16 +40,16 @@ pub enum CardAnswer {
 
 /// The hopper of the card reader: the cards that are still to be read.
 ///
-/// They are those of a pile, which is a list of cards or the lines of the unit Deck, and then the lines of the unit Data. A line
-/// stands for the card that it fills with blanks; one of over 80 bytes is a jam, which no card behind it can pass.
+/// First come the cards of a pile, which is a list of cards or the lines of the unit Deck, and then the lines of the unit Data. A line
+/// is read as a card, filled with blanks. A line of over 80 bytes is a jam, and no card after it can be read.
 ///
-/// A hopper counts the cards that were read of it, and tallies the bad characters that were stored of them, from its beginning on. The
-/// cards that were read and those that are left are all that it was given, in their order.
-/// Source: 1622 manual, reader hopper; that lines stand for cards, the counts and the tally are this project's own.
+/// From its beginning on a hopper counts the cards that are read, and tallies their bad characters that are stored. The cards that were
+/// read and the cards that are left are all cards that the hopper was given, in their order.
+/// Source: 1622 manual, reader hopper; that lines are read as cards, the counts and the tally are this project's own.
 #[derive(Drop)]
 pub struct Hopper {
     front: Option<Front>,
-    // The unit of the card that came to the front last: Deck, in whose place a list of cards stands, or Data.
+    // The unit of the card that came to the front last: Data, or Deck, also for a list of cards.
     from: Unit,
     pile: Pile,
     data: Lines,
@@ -62,7 +62,7 @@ pub struct Hopper {
 impl Hopper {
     ghost use Rattle.card_unit.specs.Hopper.{IsNewHopper, GoesOnReadingCards, cards_read, bad_cards, line_read, hopper_left, own_cards, cards_and_data, deck_and_data, Holds, HasBehind, NextCard, deck_left, card_texts, LeavesData, NextOfDeck, ReadsNext, ReadsNoCard, HasSameRead, HoldsOfDeck, LooksBehind, IsHopperAhead, KeepsAhead, IsAheadBehind};
 
-    /// A hopper that holds these cards, and behind them those of the unit Data.
+    /// A hopper with these cards, followed by the cards of the unit Data.
     ///
     /// Source: this project's own.
     pub fn of_cards(cards: Vec<Card>) -> Hopper
@@ -82,7 +82,7 @@ impl Hopper {
         }
     }
 
-    /// A hopper that holds the cards of the unit Deck, and behind them those of the unit Data.
+    /// A hopper with the cards of the unit Deck, followed by the cards of the unit Data.
     ///
     /// Source: this project's own.
     pub fn of_units() -> Hopper
@@ -103,19 +103,19 @@ impl Hopper {
 
     /// Takes the next card.
     ///
-    /// `Empty` exactly where no card is left. `Jam` exactly where the next line is over 80 bytes; it stays, so each later call answers
-    /// the same. `Failed` only where the host's count of faults rose; the cards that are left are then as before.
+    /// `Empty` exactly if no card is left. `Jam` exactly if the next line is over 80 bytes; the line stays, so each later call answers
+    /// `Jam` too. `Failed` only if the host's count of faults rose; the cards that are left are then as before.
     ///
-    /// The cards of the pile come one after another though the host may tell nothing of Data, and while two or more are left Data is
-    /// not asked. No card is put into the pile.
+    /// The cards of the pile come in their order, also if the host does not reveal the bytes of Data. While two or more of them are left,
+    /// the host is not asked for Data. No card is added to the pile.
     ///
-    /// No card is asked for before its turn. That holds of all that was asked since the hopper was made, and not of this call alone:
-    /// Deck and Data were asked for no more than the cards that were taken and the next one need, and for one look behind each card
-    /// that was taken at whether a byte is left; and no such look was made at Data while the pile had another card.
+    /// The host is not asked early, neither in this call nor in an earlier one. It was asked for Deck and Data only when the cards taken
+    /// or the next card needed bytes, and once after each card taken, to see whether a byte is left. While the pile had another card,
+    /// this question was not asked for Data.
     ///
-    /// A card that is taken counts as one that was read, of the list of cards, of Deck or of Data, and its number there is one more than
-    /// that of the card before it. Nothing of it is tallied yet. Where none is taken, the counts stay.
-    /// Source: 1622 manual, reader hopper and last card; that 09 looks for a byte behind the card, and the counts, are this
+    /// A card that is taken counts as read, for the list of cards, Deck or Data, and its number there is one more than the number of the
+    /// card before it. None of its characters is tallied yet. If no card is taken, the counts stay.
+    /// Source: 1622 manual, reader hopper and last card; that 09 depends on a byte after the card, and the counts, are this
     /// project's own.
     pub fn next_card<H: Host>(&mut self, host: &mut H) -> CardAnswer
         ensures card { NextCard self.old self.new (H.seen host.old) (H.seen host.new) result }
@@ -136,7 +136,7 @@ impl Hopper {
             More::No => true,
             More::Failed => return CardAnswer::Failed,
         };
-        // Of the front where it stands, since a copy of it would have to be made first.
+        // By reference, since a match on the front's value would first copy it.
         let card = match &self.front {
             Some(front) => front.to_card(),
             None => unreachable!(),
@@ -146,9 +146,9 @@ impl Hopper {
         CardAnswer::Card { card, last }
     }
 
-    /// How many cards were read since the hopper was made, those of the pile and those of Data.
+    /// How many cards of the pile and of Data were read since the hopper was made.
     ///
-    /// The cards of the pile are read first. A card counts as read as soon as it is taken, also where the instruction that reads it stops.
+    /// The cards of the pile are read first. A card counts as read as soon as it is taken, also if the instruction that reads it stops.
     /// Source: this project's own.
     pub fn cards_read(&self) -> CardsRead
         ensures { result ≡ cards_read self.now }
@@ -158,8 +158,8 @@ impl Hopper {
 
     /// The bad characters of the cards that were read: the first of them, and how many there were.
     ///
-    /// They are those that were stored as zeros, for which the read check 06 went on. A character for which there was no room in core is
-    /// not among them. A character may be bad as a digit and good as a pair, so each counts by how its card was read.
+    /// They were stored as zeros and turned on the read check 06. A character for which core had no room is not tallied. A character may
+    /// be bad as a digit and good as a pair, so each counts by how its card was read.
     /// Source: this project's own.
     pub fn bad_characters(&self) -> Tally
         ensures { result ≡ bad_cards self.now }
@@ -167,7 +167,7 @@ impl Hopper {
         self.bad
     }
 
-    // Takes up the bad ones among the characters that were stored of the card that was read last.
+    // Tallies the bad characters among `stored`, the characters of the last card that were stored.
     pub(crate) fn take_up(&mut self, how: ReadAs, stored: &[u8])
         requires { length stored.now ≤ 80 }
         ensures { self.new ≡ record self.old { bad = with_bad (bad_from self.old.from (line_read self.old) how 1 stored.now) self.old.bad } }
@@ -179,7 +179,7 @@ impl Hopper {
         self.bad.take_up(self.from, line, how, stored);
     }
 
-    // Holds the next card, or the text that stands for it, at the front, where it stays until the card is taken.
+    // Moves the next card, or its line, to the front if the front is empty. It stays there until the card is taken.
     fn hold<H: Host>(&mut self, host: &mut H) -> Held
         ensures holds { Holds self.old self.new (H.seen host.old) (H.seen host.new) result }
         ensures deck { HoldsOfDeck self.old self.new (H.seen host.old) (H.seen host.new) result }
@@ -209,7 +209,7 @@ impl Hopper {
         }
     }
 
-    // Whether anything stands behind the front.
+    // Whether anything follows the front.
     fn more_behind<H: Host>(&mut self, host: &mut H) -> More
         ensures behind { HasBehind self.old self.new (H.seen host.old) (H.seen host.new) result }
         ensures deck { LooksBehind self.old self.new (H.seen host.old) (H.seen host.new) result }

@@ -1,4 +1,4 @@
-// What lies in a hopper before the data cards.
+// The cards or lines that lie in a hopper before the data cards.
 ghost use Rattle.std.specs.Prelude.{◌≡◌};
 ghost use Rattle.outside_io.specs.declared.host.Unit.TheVariants as units;
 ghost use Rattle.outside_io.specs.World.{same_unit};
@@ -7,7 +7,7 @@ use crate::front::{Front, Held, hold_line};
 use card_code::{Card, Lines, More};
 use outside_io::{Host, Unit};
 
-// Cards, of which the first ones are gone, or the lines of the unit Deck.
+// Cards, the first `gone` of them already taken, or the lines of the unit Deck.
 #[derive(Drop)]
 pub(crate) enum Pile {
     Cards { cards: Vec<Card>, gone: usize },
@@ -18,7 +18,7 @@ impl Pile {
     ghost use Rattle.card_code.specs.declared.lines.More.TheVariants as more;
     ghost use Rattle.card_unit.specs.Pile.{LooksAt, pile_unit, pile_cards, HoldsOfPile, MoreFronts, IsPileAhead, IsPileInTurn};
 
-    // Holds what stands next in the pile at the front.
+    // Moves the pile's next card or line to the front.
     pub(crate) fn hold<H: Host>(&mut self, front: &mut Option<Front>, host: &mut H) -> Held
         requires { pile_unit self.old ≡ units.Deck }
         ensures unit { pile_unit self.new ≡ units.Deck }

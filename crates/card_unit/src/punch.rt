@@ -23,11 +23,11 @@ const COLUMNS: usize = 80;
 /// Punches a card with the 80 digits from `p` upwards.
 ///
 /// `p` is an address, 00000 to N-1. Each digit is punched as its object character, but an unflagged numerical blank as a blank. The
-/// unit Punched gets the 80 bytes and a LF, once all digits were read: on a stop no card is punched. A record mark is punched like any
-/// other digit. `Failed` only where the host's count of faults rose: a first part of the card's line is punched then. Of the answers
-/// only `Done`, `Stop` and `Failed` come.
+/// unit Punched gets the 80 bytes and a LF after all digits were read: on a stop no card is punched. A record mark is punched like any
+/// other digit. `Failed` only if the host's count of faults rose: a first part of the card's line is punched then. The answer is
+/// always `Done`, `Stop` or `Failed`.
 ///
-/// Stops: 2 where the digits go past the end of core, 4 and 5 for a bad cell.
+/// Stops: 2 if the digits go past the end of core, 4 and 5 for a bad cell.
 /// Source: 1622 manual, write numerically; when the card goes out is this project's own.
 pub fn punch_num<const M: u32, H: Host>(core: &Core<M>, p: u32, host: &mut H) -> CardIo
     requires { p < size M }
@@ -45,13 +45,13 @@ pub fn punch_num<const M: u32, H: Host>(core: &Core<M>, p: u32, host: &mut H) ->
 
 /// Punches a card with the characters of the 80 pairs from `p - 1` and `p` upwards.
 ///
-/// `p` is an odd address, 00001 to N-1. The zone digit of a pair is read first; the flags of both are ignored. A pair that no character
-/// has is punched as a blank, and turns on the write check 07 as it is read, also where a later cell stops. The unit Punched gets the
-/// 80 bytes and a LF, once all pairs were read: on a stop no card is punched. A record mark does not end the card. `Failed` only where
-/// the host's count of faults rose: a first part of the card's line is punched then. Of the answers only `Done`, `Stop` and `Failed`
-/// come.
+/// `p` is an odd address, 00001 to N-1. The zone digit of a pair is read first; the flags of both are ignored. A pair that has no
+/// character is punched as a blank, and turns on the write check 07 when it is read, also if a later cell stops. The unit Punched gets
+/// the 80 bytes and a LF after all pairs were read: on a stop no card is punched. A record mark does not end the card. `Failed` only
+/// if the host's count of faults rose: a first part of the card's line is punched then. The answer is always `Done`, `Stop` or
+/// `Failed`.
 ///
-/// Stops: 2 where the pairs go past the end of core, 4 and 5 for a bad cell.
+/// Stops: 2 if the pairs go past the end of core, 4 and 5 for a bad cell.
 /// Source: 1622 manual, write alphamerically; what a bad pair is punched as, and the order, are this project's own.
 pub fn punch_alpha<const M: u32, H: Host>(
     core: &Core<M>,
@@ -76,9 +76,9 @@ pub fn punch_alpha<const M: u32, H: Host>(
 
 /// Punches the digits from `p` to the end of core, 80 on a card, the last card filled with blanks.
 ///
-/// `p` is an address, 00000 to N-1. Each card goes to the unit Punched as 80 bytes and a LF, once its digits were read; the cards
-/// before a stop stay. `Failed` only where the host's count of faults rose: a first part of the cards is punched then. Of the answers
-/// only `Done`, `Stop` and `Failed` come.
+/// `p` is an address, 00000 to N-1. Each card goes to the unit Punched as 80 bytes and a LF after its digits were read; the cards
+/// before a stop stay. `Failed` only if the host's count of faults rose: a first part of the cards is punched then. The answer is
+/// always `Done`, `Stop` or `Failed`.
 ///
 /// Stops: 4 and 5 for a bad cell.
 /// Source: 1622 manual, dump numerically; that the last card is filled with blanks is this project's own.
@@ -126,7 +126,7 @@ fn digits_card<const M: u32>(core: &Core<M>, a: u32, count: usize) -> Result<Car
     Ok(Card(columns))
 }
 
-// The word of the ten cells from `at` upwards, where so many of the digits are left, and core has ten good cells there.
+// The word of the ten cells from `at` upwards, if ten digits are left and core has ten good cells there.
 #[inline]
 fn ten_columns<const M: u32>(core: &Core<M>, at: u32, left: usize) -> Option<u64>
     ensures more { IfSome result (λ _. 10 ≤ left) }
@@ -158,7 +158,7 @@ fn pairs_card<const M: u32>(core: &Core<M>, a: u32, panel: &mut Panel) -> Result
     Ok(Card(columns))
 }
 
-// The word of the ten cells from `a` upwards, where core has so many there, and each holds a digit.
+// The word of the ten cells from `a` upwards, if core has them and each holds a digit.
 #[inline]
 fn good_ten<const M: u32>(core: &Core<M>, a: u32) -> Option<u64>
     ensures { IfSome result (HasGoodTen core.now a) }
@@ -170,7 +170,7 @@ fn good_ten<const M: u32>(core: &Core<M>, a: u32) -> Option<u64>
     if are_good(word) { Some(word) } else { None }
 }
 
-// The digit at `a + j`, from the word of the ten cells from `a` upwards where there is one.
+// The digit at `a + j`: from the word of the ten cells from `a` upwards if `ten` has it, otherwise from core.
 #[inline]
 fn digit_of<const M: u32>(core: &Core<M>, a: u32, ten: Option<u64>, j: u32) -> Result<Digit, Stop>
     requires near { a ≤ 61000 }

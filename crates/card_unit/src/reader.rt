@@ -40,15 +40,15 @@ pub enum CardIo {
 
 /// Reads the 80 digits of the next card into core from `p` upwards.
 ///
-/// `p` is below the size of core. The card is taken first, and the last card indicator 09 goes on exactly where no byte is left behind
-/// it in the hopper; else it stays. Then the digits are stored one after another. A bad character is stored as an unflagged 0, and the
-/// read check 06 goes on as it is stored. `Empty` and `Jam` come as [`Hopper::next_card`] gives them. They and `Failed` leave core,
-/// panel and hopper as they were.
+/// `p` is below the size of core. The card is taken first, and the last card indicator 09 goes on exactly if no byte follows the card
+/// in the hopper; otherwise 09 stays. Then the digits are stored one after another. A bad character is stored as an unflagged 0, and
+/// turns on the read check 06 at once. `Empty` and `Jam` are the answers of [`Hopper::next_card`]. They and `Failed` leave core,
+/// panel and the cards of the hopper as they were.
 ///
-/// The card counts as one that was read, and the bad ones among the characters that were stored of it are tallied, also where the
-/// instruction stops: a character for which there was no room in core is not among them. See [`Hopper::bad_characters`].
+/// The card counts as read, and its bad characters that were stored are tallied, also if the instruction stops. A character for which
+/// core had no room is not tallied. See [`Hopper::bad_characters`].
 ///
-/// Stops: 2 where a digit's position is past the end of core; the digits before it stay, and the card is gone.
+/// Stops: 2 if a digit's position is past the end of core; the digits before it stay, and the card is gone.
 /// Source: 1622 manual, read numerically; the order of its parts, and the tally, are this project's own.
 #[inline]
 pub fn read_num<const M: u32, H: Host>(
@@ -83,14 +83,14 @@ pub fn read_num<const M: u32, H: Host>(
 
 /// Reads the 80 characters of the next card into core as pairs, from `p - 1` and `p` upwards.
 ///
-/// `p` is an odd address, 00001 to N-1. The card is taken first, and the last card indicator 09 goes on exactly where no byte is left
-/// behind it in the hopper; else it stays. Then the digits are stored one after another, the zone of each pair first, without flags. A
-/// bad character is stored as 00, and the read check 06 goes on as its first digit is stored. `Empty` and `Jam` come as
-/// [`Hopper::next_card`] gives them. They and `Failed` leave core, panel and hopper as they were.
+/// `p` is an odd address, 00001 to N-1. The card is taken first, and the last card indicator 09 goes on exactly if no byte follows the
+/// card in the hopper; otherwise 09 stays. Then the digits are stored one after another, the zone of each pair first, without flags. A
+/// bad character is stored as 00, and turns on the read check 06 as its first digit is stored. `Empty` and `Jam` are the answers of
+/// [`Hopper::next_card`]. They and `Failed` leave core, panel and the cards of the hopper as they were.
 ///
-/// The card and its bad characters are counted as with [`read_num`]; a character is stored where there is room for both of its digits.
+/// The card and its bad characters are counted as with [`read_num`]; a character counts as stored if both of its digits have room.
 ///
-/// Stops: 2 where a digit's position is past the end of core; the digits before it stay, and the card is gone.
+/// Stops: 2 if a digit's position is past the end of core; the digits before it stay, and the card is gone.
 /// Source: 1622 manual, read alphamerically; the order of its parts, and the tally, are this project's own.
 pub fn read_alpha<const M: u32, H: Host>(
     core: &mut Core<M>,
@@ -122,7 +122,7 @@ pub fn read_alpha<const M: u32, H: Host>(
     }
 }
 
-// Turns the last card indicator on where the card was the last.
+// Turns the last card indicator on if the card was the last.
 fn turn_on_last(panel: &mut Panel, last: bool)
     ensures { panel.new ≡ panel_after_card last panel.old }
 {
@@ -131,8 +131,8 @@ fn turn_on_last(panel: &mut Panel, last: bool)
     }
 }
 
-// How a reading ends of whose card so much was stored. The bad ones among its first characters, as many as core had room for, are
-// taken up; while 06 is off behind a card that was stored whole, there are none.
+// The answer of a reading, by the result of storing its card. The bad characters among those that core had room for are tallied. If the
+// whole card was stored and 06 is off, no character was bad.
 #[inline]
 fn stored_ending(
     hopper: &mut Hopper,
@@ -162,8 +162,8 @@ fn stored_ending(
     }
 }
 
-// Takes up the bad ones among the first characters of the card that was read last: as many as core had room for. It stands
-// apart, so that the reading of good cards is small enough to be compiled into the instruction.
+// Tallies the bad characters among the first ones of the last card: as many as core had room for. It is a function of its own, so that
+// the reading of good cards is small enough to be compiled into the instruction.
 #[cold]
 #[inline(never)]
 fn take_up_first(hopper: &mut Hopper, how: ReadAs, card: &[u8], room: usize)

@@ -1,4 +1,4 @@
--- What words give, as the code keeps it.
+-- The meaning of words, as the code keeps it.
 use Rattle.std.specs.Prelude.{◌≡◌, Option, None, option_copied, option_map, slice_index_or}
 use Rattle.command_line.specs.declared.names.Names.{Names}
 use Rattle.command_line.specs.declared.options.Slot.TheVariants.{File}
@@ -15,7 +15,7 @@ values_in kept slot = option_copied (slice_index_or kept.texts (slot_place slot)
 abbrev pub names_in : Names → reading.Names
 names_in kept u = values_in kept.values (File u)
 
--- what plain words mean
+-- the meaning of plain words
 abbrev pub meaning_of : Plain → reading.WordsSaid
 meaning_of plain = record {
   command = plain.command;

@@ -1,4 +1,4 @@
--- The words of the program as clap reads them, and what its matches mean.
+-- The words of the program as clap reads them, and the meaning of its matches.
 use Rattle.std.specs.Prelude.{◌≡◌, Bool, true, List, [], ◌∷◌, Option, Some, None, codes, option_and_then}
 use Rattle.clap.specs.Words.{App, Row as Found, Rule, Shape, Text, app_of, first_of, new_app, new_rule, with_rule, with_subcommand}
 use Rattle.clap.specs.declared.builder.command.Command as clap
@@ -11,7 +11,7 @@ use Rattle.command_line.specs.Options.{slot_word, slots}
 use Rattle.command_line.specs.Reading.{WordsSaid, Values, reading_of_command}
 use Rattle.command_line.specs.Words.{commands, with_value}
 
--- an option with this word behind its hyphens takes one value, and is read back by the word
+-- an option with this word after its hyphens takes one value, and clap finds the value by the word
 abbrev pub rule_for : Text → Rule
 rule_for word = record (new_rule word) { long = Some word; action = Some Set }
 
@@ -61,12 +61,12 @@ program_for r = with_subcommand top (subcommand_for r).top
 abbrev pub values_found : List Found → Values
 values_found found slot = first_of (slot_word slot) found
 
--- a map with what was found for a slot
+-- a map with the text that was found for a slot
 abbrev pub with_found : Slot → Option Text → Values → Values
 with_found slot None values = values
 with_found slot (Some text) values = with_value slot text values
 
--- what the command means that was found, with its options
+-- the meaning of the command that was found, with its options
 abbrev pub meaning_found : Option (Text × List Found) → Option WordsSaid
 meaning_found None = None
 meaning_found (Some p) = option_and_then (λ command. reading_of_command command (values_found p.1)) (value_by_name commands p.0)

@@ -2,7 +2,7 @@
 use Rattle.std.specs.Prelude.{ℕ, ◌≤◌}
 use Rattle.command_line.specs.Reading.{fewest_made, last_source, most_made}
 
--- a source that is made has so many statements, by such a number
+-- the possible numbers of statements of a made source, and the numbers that it may be made from
 abbrev pub AreStatements : ℕ → Type 0
 AreStatements n = (fewest_made ≤ n) × (n ≤ most_made)
 

@@ -10,7 +10,7 @@ use Rattle.command_line.specs.declared.words.Command.TheVariants.{Assemble, Load
 
 -- ---- slots
 
--- the slot's place in the map: those of the files come first, in the order of units
+-- the slot's place in the map: the files come first, in the order of units
 abbrev pub slot_place : Slot → ℕ
 slot_place (File u) = place u
 slot_place Limit = UNIT_COUNT
@@ -40,11 +40,11 @@ option_word slot = codes "--" ++ slot_word slot
 
 -- ---- the slots of a command
 
--- what an assembly may give beside the source
+-- the slots of an assembly, next to the source
 abbrev pub assembly : List Slot
 assembly = File Object ∷ File Image ∷ File Listing ∷ Form ∷ []
 
--- what the machine may be given beside the deck
+-- the slots of the machine, next to the deck
 abbrev pub machine : List Slot
 machine = File Data ∷ File Keys ∷ File Script ∷ File Pack ∷ File Punched ∷ File Typed ∷ Limit ∷ []
 

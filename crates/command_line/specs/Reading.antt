@@ -1,4 +1,4 @@
--- The reading of values: what the text of each slot stands for, and what stands where it has none.
+-- The reading of values: the meaning of each slot's text, and the standard value of a slot without text.
 use Rattle.std.specs.Prelude.{ℕ, List, [], ◌∷◌, Option, Some, None, option_and_then}
 use Rattle.outside_io.specs.declared.host.Unit as unit
 use Rattle.line_words.specs.Words.{largest_number, number_in}
@@ -12,7 +12,7 @@ use Rattle.deck_punch.specs.declared.form.DeckForm.TheVariants.{SelfLoading, Den
 use Rattle.command_line.specs.declared.words.CoreSize.{CoreSize}
 use Rattle.command_line.specs.declared.words.CoreSize.TheVariants.{OneModule, TwoModules, ThreeModules}
 
--- the text of each slot, where it has one
+-- the text of each slot, if it has one
 abbrev pub Values : Type 0
 Values = Slot → Option (List ℕ)
 
@@ -23,25 +23,25 @@ Names = unit.Unit → Option (List ℕ)
 abbrev pub no_names : Names
 no_names u = None
 
--- what plain words say: a command, the names of the files, the settings of the job, and the size of core
+-- the meaning of plain words: a command, the names of the files, the settings of the job, and the size of core
 pub record WordsSaid : Type 0 where
   pub command : Command
   pub names : Names
   pub settings : Settings
   pub core : CoreSize
 
--- how many steps a run makes at most where the words give no limit
+-- how many steps a run makes at most if the words give no limit
 abbrev pub standard_limit : ℕ
 standard_limit = 1000000
 
--- a source that is made has so many statements at least, and so many at most
+-- the fewest and the most statements of a made source
 abbrev pub fewest_made : ℕ
 fewest_made = 8
 
 abbrev pub most_made : ℕ
 most_made = 1600
 
--- the greatest number by which a source is made
+-- the greatest number that a source is made from
 abbrev pub last_source : ℕ
 last_source = 999999
 
@@ -53,7 +53,7 @@ deck_forms = row "self" SelfLoading ∷ row "dense" Dense ∷ []
 abbrev pub core_sizes : List (NameRow CoreSize)
 core_sizes = row "20000" OneModule ∷ row "40000" TwoModules ∷ row "60000" ThreeModules ∷ []
 
--- what a text is read as, and the standard where there is none
+-- the value of a text, and the standard value without a text
 abbrev pub read_or : {A : Type 0} → (List ℕ → Option A) → A → Option (List ℕ) → Option A
 read_or read standard None = Some standard
 read_or read standard (Some text) = read text
@@ -61,11 +61,11 @@ read_or read standard (Some text) = read text
 abbrev pub limit_in : Values → Option ℕ
 limit_in values = read_or (number_in 0 largest_number) standard_limit (values Limit)
 
--- how many statements a source that is made has: the least where the words don't say
+-- how many statements a made source has: the least if the words don't say
 abbrev pub statements_in : Values → Option ℕ
 statements_in values = read_or (number_in fewest_made most_made) fewest_made (values Statements)
 
--- the number by which a source is made
+-- the number that a source is made from
 abbrev pub number_read : Values → Option ℕ
 number_read values = read_or (number_in 0 last_source) 0 (values Number)
 
@@ -78,7 +78,7 @@ core_in values = read_or (value_by_name core_sizes) OneModule (values Core)
 abbrev pub with : {A B : Type 0} → Option A → (A → Option B) → Option B
 with value next = option_and_then next value
 
--- the settings of a job, where each of them can be read
+-- the settings of a job, if each of them can be read
 abbrev pub settings_in : Values → Option Settings
 settings_in values =
     with (limit_in values) (λ limit.
@@ -92,7 +92,7 @@ settings_in values =
       form = form;
     })))))
 
--- what a command with these values says, where each of them can be read
+-- the meaning of a command with these values, if each of them can be read
 abbrev pub reading_of_command : Command → Values → Option WordsSaid
 reading_of_command command values =
     with (settings_in values) (λ settings.

@@ -1,4 +1,4 @@
--- What words say has one equation at most with another, so that what was read of words is a fact of them.
+-- Two proofs that two meanings of words are equal are themselves equal, so that a reading of words is a proposition.
 use Rattle.std.proofs.Common.{ap}
 use Rattle.std.specs.Prelude.{◌≡◌, Option, option_map}
 use Rattle.std.proofs.Props.{props}

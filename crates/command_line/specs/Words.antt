@@ -1,4 +1,4 @@
--- Which words are plain, and what they say.
+-- Which words are plain, and their meaning.
 use Rattle.std.specs.Prelude.{ℕ, Bool, true, false, not, ◌&&◌, List, [], ◌∷◌, map, find, String, string_bytes, Option, Some, None, is_some, option_map, option_and_then, if◌then◌else◌, ◌==◌}
 use Rattle.std.specs.List.{list_all}
 use Rattle.std.specs.Str.{bytes_eq}
@@ -52,7 +52,7 @@ abbrev pub setting : Command → List ℕ → List ℕ → Option Setting
 setting command option value =
     if is_value value then option_map (λ slot. (slot, value)) (slot_of command option) else None
 
--- options, each with its value behind it
+-- options, each with its value after it
 abbrev pub settings : Command → List (List ℕ) → Option (List Setting)
 settings command [] = Some []
 settings command (option ∷ []) = None
@@ -83,7 +83,7 @@ abbrev pub values_made : Command → List Setting → Option Values
 values_made command given =
     if is_once given && has_required command (values_of given) then Some (values_of given) else None
 
--- the map that the words behind a command make
+-- the map that the words after a command make
 abbrev pub values_in_words : Command → List (List ℕ) → Option Values
 values_in_words command words = option_and_then (values_made command) (settings command words)
 
@@ -95,11 +95,11 @@ plain [] = None
 plain (word ∷ rest) =
     option_and_then (λ command. option_and_then (reading_of_command command) (values_in_words command rest)) (value_by_name commands word)
 
--- what the words of a command line mean, where they are plain
+-- the meaning of the words of a command line if they are plain
 abbrev pub meaning_of_words : List (String Global) → Option WordsSaid
 meaning_of_words words = plain (map string_bytes words)
 
--- the names that words give; there are none where they are not plain
+-- the names that words give; no names if they are not plain
 abbrev pub names_of : Option WordsSaid → Names
 names_of None = no_names
 names_of (Some said) = said.names

@@ -1,11 +1,11 @@
-// What the words of the command line give.
+// The meaning of the words of the command line.
 ghost use Rattle.command_line.specs.Numbers.{AreNumbers};
 
 use crate::names::Names;
 use crate::reading::Settings;
 use crate::words::{Command, CoreSize};
 
-/// What plain words say.
+/// The meaning of plain words.
 ///
 /// Source: this project's own.
 #[derive(Clone, Copy)]
@@ -16,7 +16,7 @@ pub struct Plain<'a> {
     pub names: Names<'a>,
     /// What the words set for the job.
     pub settings: Settings,
-    /// The size of core; one module where the words give none.
+    /// The size of core; one module if the words give none.
     pub core: CoreSize,
     ghost fits: { AreNumbers settings.statements settings.number },
 }

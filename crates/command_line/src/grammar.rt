@@ -1,4 +1,4 @@
-// The grammar of the words behind a command: options, each with its value behind it.
+// The grammar of the words after a command: options, each with its value after it.
 ghost use Rattle.std.specs.Prelude.{◌≡◌, map, string_bytes};
 ghost use Rattle.command_line.specs.Given.{values_in, KeepsJust};
 ghost use Rattle.command_line.specs.Words.{has_required, is_value, setting, values_in_words, with_one_setting};

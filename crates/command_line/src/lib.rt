@@ -1,13 +1,13 @@
 //! The words of the command line: which are plain, and what plain words say.
 //!
-//! Plain words are a command and then pairs of an option and a value. Each option fills a slot: the name of a file, a number, the form of a
-//! deck or the size of core. Which slots there are, their words, and which of them a command takes, is one file. What the words give is one
-//! map from slot to text, and another file reads the texts into types. All other words are not plain; the program answers them with how it
-//! is used.
+//! Plain words are a command and then pairs of an option and a value. Each option fills a slot: the name of a file, a number, the
+//! form of a deck or the size of core. One file has the slots, their words, and the slots that each command takes. The words give
+//! one map from slot to text, and another file reads the texts into types. All other words are not plain; the program answers
+//! them with its usage.
 //!
-//! Words are tried first, and refused here where they are not plain. Plain words are then read with `clap`, which is told of their command
-//! alone, with its options, and the map that is read is made from its matches. The words with what they say are a `Read`: they are read once, for
-//! the job and for all that is said of it.
+//! The grammar here is tried first, and refuses words that are not plain. Plain words are then read with `clap`, which is set up
+//! with their command alone and its options; its matches give the map that is read. A `Read` has the words with their meaning:
+//! they are read once, for the job and for its message.
 #![tactic(auto)]
 
 mod given;

@@ -80,7 +80,7 @@ fn program_for<'a>(
     top.subcommand(subcommand_for(alloc, name, command)?)
 }
 
-// With what was found for a slot.
+// The values, with the text that was found for a slot.
 fn with_found<'a>(values: Values<'a>, slot: Slot, text: Option<&'a str>) -> Values<'a>
     ensures { values_in result ≡ with_found slot (option_copied text.entry) (values_in values.entry) }
 {
@@ -109,8 +109,8 @@ fn memory_error(error: Error) -> AllocError
     AllocError
 }
 
-// What plain words mean, by what clap finds in them. Told of the command that they begin with alone, it finds what it finds among all
-// commands, and in less time.
+// The meaning of plain words, by clap's matches. Clap has only the command that they begin with: it finds the same options and
+// values as with all commands, in less time.
 pub(crate) fn matched<'a>(
     alloc: Global,
     words: &'a [String],

@@ -14,7 +14,7 @@ impl<'a> Names<'a> {
     ghost use Rattle.std.specs.Prelude.{◌≡◌, option_copied};
     ghost use Rattle.command_line.specs.Given.{names_in};
 
-    /// The name of a unit's file; `None` where the words name none.
+    /// The name of a unit's file; `None` if the words name none.
     pub fn get(&self, unit: Unit) -> Option<&'a str>
         ensures { option_copied result ≡ names_in self.now unit }
     {

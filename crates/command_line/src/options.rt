@@ -9,7 +9,7 @@ ghost use Rattle.command_line.specs.Words.{slot_of};
 use crate::words::Command;
 use outside_io::{UNIT_COUNT, Unit};
 
-// What an option gives.
+// A slot: the file or the value that an option gives.
 #[derive(Clone, Copy)]
 pub(crate) enum Slot {
     // The name of the file of a unit.
@@ -29,7 +29,7 @@ pub(crate) enum Slot {
 pub(crate) const SLOT_COUNT: usize = UNIT_COUNT + 5;
 
 impl Slot {
-    // Its place in the map.
+    // The slot's place in the map.
     pub(crate) fn place(self) -> usize
         ensures is { result ≡ slot_place self }
         ensures below { result < SLOT_COUNT }
@@ -44,7 +44,7 @@ impl Slot {
         }
     }
 
-    // The word of its option, which stands behind two hyphens.
+    // The word of its option, without the two hyphens.
     pub(crate) fn word(self) -> &'static str
         ensures { result.now ≡ slot_word self }
     {
@@ -76,7 +76,7 @@ pub(crate) fn slot_at(place: usize) -> Slot
     }
 }
 
-// What an assembly may give beside the source.
+// The slots of an assembly, next to the source.
 const ASSEMBLY: [Slot; 4] = [
     Slot::File(Unit::Object),
     Slot::File(Unit::Image),
@@ -84,7 +84,7 @@ const ASSEMBLY: [Slot; 4] = [
     Slot::Form,
 ];
 
-// What the machine may be given beside the deck.
+// The slots of the machine, next to the deck.
 const MACHINE: [Slot; 7] = [
     Slot::File(Unit::Data),
     Slot::File(Unit::Keys),
@@ -175,14 +175,14 @@ pub(crate) fn optional(command: Command) -> Groups
     }
 }
 
-// What follows a first hyphen.
+// The word after a first hyphen.
 fn without_hyphen(word: &str) -> Option<&str>
     ensures { option_map (λ s. s.now) result ≡ strip_byte 45 word.now }
 {
     word.strip_prefix('-')
 }
 
-// What follows the two hyphens of an option.
+// The word after the two hyphens of an option.
 fn without_hyphens(option: &str) -> Option<&str>
     ensures { option_map (λ s. s.now) result
         ≡ option_and_then (strip_byte 45) (strip_byte 45 option.now) }

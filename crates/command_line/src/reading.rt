@@ -14,18 +14,18 @@ use crate::words::{Command, CoreSize, STANDARD_LIMIT};
 use deck_punch::DeckForm;
 use line_words::{LARGEST_NUMBER, find, number_in};
 
-/// What the words set for a job, by the options that have a value of their own: all but the names of files, and the size of core.
+/// The settings of a job, by the options that have a value of their own: all except the names of files, and the size of core.
 ///
 /// Source: this project's own.
 #[derive(Clone, Copy)]
 pub struct Settings {
-    /// The most steps that a run makes, 0 to 999,999,999,999,999; 1,000,000 where the words give none.
+    /// The most steps that a run makes, 0 to 999,999,999,999,999; 1,000,000 if the words give none.
     pub limit: u64,
-    /// How many statements a source that is made has, 8 to 1,600; 8 where the words give none.
+    /// How many statements a made source has, 8 to 1,600; 8 if the words give none.
     pub statements: u32,
-    /// The number by which a source is made, 0 to 999,999; 0 where the words give none.
+    /// The number that a source is made from, 0 to 999,999; 0 if the words give none.
     pub number: u32,
-    /// The form of the object deck; self-loading where the words give none.
+    /// The form of the object deck; self-loading if the words give none.
     pub form: DeckForm,
 }
 
@@ -39,14 +39,14 @@ const CORE_SIZES: [(&str, CoreSize); 3] = [
     ("60000", CoreSize::ThreeModules),
 ];
 
-// A source that is made has so many statements, by a number up to the last.
+// The fewest and the most statements of a made source, and the greatest number that it is made from.
 const FEWEST_MADE: u64 = 8;
 
 const MOST_MADE: u64 = 1_600;
 
 const LAST_SOURCE: u64 = 999_999;
 
-// A number from the least to the most; the standard one where there is no text.
+// A number from `least` to `most`; `standard` if there is no text.
 fn read_or(least: u64, most: u64, standard: u64, text: Option<&str>) -> Option<u64>
     requires { IsNumberWithin least most standard }
     ensures is { result ≡ read_or (number_in least most) standard (option_copied text.entry) }
@@ -78,7 +78,7 @@ fn core_in(values: &Values<'_>) -> Option<CoreSize>
     }
 }
 
-// The settings of a job, where each of them can be read.
+// The settings of a job, if each of them can be read.
 fn settings_in(values: &Values<'_>) -> Option<Settings>
     ensures is { result ≡ settings_in (values_in values.now) }
     ensures fits { IfSome result (λ settings. AreNumbers settings.statements settings.number) }
@@ -100,7 +100,7 @@ fn settings_in(values: &Values<'_>) -> Option<Settings>
     })
 }
 
-// What a command with these values says, where each of them can be read.
+// The meaning of a command with these values, if each of them can be read.
 pub(crate) fn read<'a>(command: Command, values: &Values<'a>) -> Option<Plain<'a>>
     ensures { MeansJust (reading_of_command command (values_in values.now)) result }
 {

@@ -1,4 +1,4 @@
-// The words of a command line, with what they were read as.
+// The words of a command line, with their meaning.
 // Source: this project's own.
 ghost use Rattle.std.specs.Prelude.{◌≡◌, true, is_some, IfOk, IfErr};
 ghost use Rattle.std.proofs.Props.{props};
@@ -11,14 +11,14 @@ use crate::words::{CoreSize, plain_words};
 use outside_io::Unit;
 use std::alloc::{AllocError, Global};
 
-/// The words of a command line, with what they were read as.
+/// The words of a command line, with their meaning.
 ///
-/// A job and what is said of it go by one reading.
+/// A job and its message use one reading.
 #[derive(Clone, Copy)]
 pub struct Read<'a> {
-    /// The words, those behind the program's name.
+    /// The words after the program's name.
     pub words: &'a [String],
-    /// What they say, as `plain_words` answers it: `None` where they are not plain, and an error where memory was lacking to read them.
+    /// Their meaning, as `plain_words` answers it: `None` if they are not plain, and an error if memory was lacking to read them.
     pub said: Result<Option<Plain<'a>>, AllocError>,
     ghost is: { IfOk said (MeansJust (meaning_of_words words.now)) } by { Prim.hlevel (props, MeansJust-prop) },
     ghost memory: { IfErr said (λ e. is_some (meaning_of_words words.now) ≡ true) } by { Prim.hlevel props },
@@ -39,7 +39,7 @@ impl<'a> Read<'a> {
         }
     }
 
-    /// The name of the file that the words name for a unit; `None` where they name none, are not plain, or memory was lacking.
+    /// The name of the file that the words name for a unit; `None` if they name none, are not plain, or memory was lacking.
     pub fn file(&self, unit: Unit) -> Option<&'a str>
         ensures is { option_copied result ≡ file_of self.now unit }
         ensures named { IfOk self.now.said (λ said. option_copied result ≡ names_of (meaning_of_words self.now.words.now) unit) }
@@ -50,7 +50,7 @@ impl<'a> Read<'a> {
         }
     }
 
-    /// The size of core; one module where the words give none, are not plain, or memory was lacking.
+    /// The size of core; one module if the words give none, are not plain, or memory was lacking.
     pub fn core(&self) -> CoreSize
         ensures { result ≡ core_of self.now }
     {

@@ -34,7 +34,7 @@ impl<'a> Values<'a> {
         self.texts[slot.place()]
     }
 
-    // With the text of one slot more.
+    // The map with the text of one slot more.
     pub(crate) fn with(self, slot: Slot, text: &'a str) -> Self
         ensures { values_in result ≡ with_value slot text.now (values_in self.entry) }
     {

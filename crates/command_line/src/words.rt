@@ -11,7 +11,7 @@ use crate::reading::read;
 use line_words::find;
 use std::alloc::{AllocError, Global};
 
-/// What the program does.
+/// A command of the program.
 ///
 /// Source: this project's own.
 #[derive(Clone, Copy)]
@@ -32,7 +32,7 @@ pub enum Command {
     Disk,
 }
 
-/// The size of core: so many modules of 20,000 positions.
+/// The size of core, in modules of 20,000 positions.
 ///
 /// Source: CPU manual, for the three sizes.
 #[derive(Clone, Copy, Debug, PartialEq, Eq)]
@@ -58,7 +58,7 @@ pub const COMMANDS: [(&str, Command); 7] = [
     ("disk", Command::Disk),
 ];
 
-/// A run makes at most so many steps where the words give no limit.
+/// The most steps that a run makes if the words give no limit.
 ///
 /// Source: this project's own.
 pub const STANDARD_LIMIT: u64 = 1_000_000;
@@ -72,7 +72,7 @@ pub fn command_of(word: &str) -> Option<Command>
     find(&COMMANDS, word.as_bytes())
 }
 
-// What the words mean, where they are plain: a command, and then options with their values.
+// The meaning of the words if they are plain: a command, and then options with their values.
 fn by_hand(words: &[String]) -> Option<Plain<'_>>
     ensures { MeansJust (meaning_of_words words.now) result }
 {
@@ -91,12 +91,12 @@ fn is_plain(words: &[String]) -> bool
     by_hand(words).is_some()
 }
 
-/// What the words say, where they are plain; `None` where they are not.
+/// The meaning of the words if they are plain; `None` if they are not.
 ///
-/// The words are those after the program's name. They are plain where they are a command and then pairs of an option and a value, in any
-/// order: each option is one of that command's, none stands twice, and the required ones are there; a value is not empty and does not begin
-/// with `-`; a number is 1 to 15 decimal digits in its range; a form is `self` or `dense`; and a size of
-/// core is `20000`, `40000` or `60000`. The error says that memory was lacking; it comes for plain words alone.
+/// The words are those after the program's name. They are plain if they are a command and then pairs of an option and a value, in
+/// any order. Each option is one of that command's, none is given twice, and the required ones are there. A value is not empty
+/// and does not begin with `-`; a number is 1 to 15 decimal digits in its range; a form is `self` or `dense`; and a size of core
+/// is `20000`, `40000` or `60000`. The error says that memory was lacking; it is possible for plain words alone.
 /// Source: this project's own.
 pub fn plain_words<'a>(alloc: Global, words: &'a [String]) -> Result<Option<Plain<'a>>, AllocError>
     ensures is { IfOk result (MeansJust (meaning_of_words words.now)) }

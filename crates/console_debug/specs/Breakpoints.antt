@@ -6,15 +6,15 @@ use Rattle.console_debug.specs.declared.breaks.Breaks.{Breaks}
 use Rattle.console_debug.specs.Lines.{statement_number}
 use Rattle.console_debug.specs.Places.{statement_address, is_at}
 
--- from which entry of the log on those of a statement count
+-- the number of the first log entry that can count for a statement
 abbrev pub since_of : List ℕ → ℕ → ℕ
 since_of since s = slice_index_or since s 0
 
--- the entry with a number counts, which is of this statement
+-- the log entry with this number, of this statement, counts
 abbrev pub is_set : (ℕ → ℕ) → ℕ → ℕ → Bool
 is_set since number s = nat_le (since s) number
 
--- those of some entries that count, the first of which has a number
+-- the entries that count, from a list whose first entry has this number
 unfoldable pub set_from : (ℕ → ℕ) → ℕ → List ℕ → List ℕ
 set_from since number [] = []
 set_from since number (s ∷ ss) =
@@ -24,18 +24,18 @@ set_from since number (s ∷ ss) =
 abbrev pub set_now : Breaks → List ℕ
 set_now breaks = set_from (since_of breaks.since.items) 0 breaks.log.items
 
--- how many of some breakpoints are of a statement, and how many are of one at an address
+-- how many of some breakpoints belong to a statement, and how many to a statement at an address
 abbrev pub times_set : ℕ → List ℕ → ℕ
 times_set s breaks = count_by (λ b. b == s) breaks
 
 abbrev pub count_at : List PlacedText → ℕ → List ℕ → ℕ
 count_at placed address breaks = count_by (λ b. is_at address (statement_address placed b)) breaks
 
--- by an address the number of the last instruction there, 0 where there is none
+-- by address, the number of the last instruction there, or 0 without an instruction
 abbrev pub AreNumbersByAddress : List PlacedText → List ℕ → Type 0
 AreNumbersByAddress placed numbers = (a : ℕ) → a < length numbers → slice_index_or numbers a 0 ≡ statement_number placed a
 
--- the tables tell of the breakpoints that are set over these statements
+-- the tables match the breakpoints that are set, over these statements
 pub record HasTables (placed : List PlacedText) (breaks : Breaks) : Type 0 where
   pub since_reach : length placed < length breaks.since.items
   pub times_reach : length placed < length breaks.times.items
@@ -45,13 +45,13 @@ pub record HasTables (placed : List PlacedText) (breaks : Breaks) : Type 0 where
       → slice_index_or breaks.counts.items a 0 ≡ count_at placed a (set_now breaks)
   pub numbers : AreNumbersByAddress placed breaks.numbers.items
 
--- there is room for so many breakpoints, and for what is told of each statement
+-- there is room for n breakpoints, and the tables by statement are long enough
 abbrev pub HasRoomIn : ℕ → Breaks → Type 0
 HasRoomIn n breaks =
     (n ≤ vec_capacity breaks.statements) × (n ≤ vec_capacity breaks.log)
     × (most_statements < length breaks.since.items) × (most_statements < length breaks.times.items)
 
--- and for as many as before
+-- there is as much room as before
 abbrev pub HasSameRoom : Breaks → Breaks → Type 0
 HasSameRoom old new =
     (vec_capacity new.statements ≡ vec_capacity old.statements)

@@ -1,4 +1,4 @@
--- What the commands of a session do to where it stands, its breakpoints and its host.
+-- What the commands of a session do to its cursor, its breakpoints and its host.
 use Rattle.std.specs.Prelude.{ℕ, ◌≡◌, ◌+◌, Bool, true, false, List, drop, vec_len, Option, Some, None}
 use Rattle.outside_io.specs.declared.host.Unit.TheVariants as units
 use Rattle.outside_io.specs.declared.whole.Sent.{Sent}
@@ -17,7 +17,7 @@ use Rattle.console_debug.specs.Session.{Course, Session, nth_place, says, goes_t
 use Rattle.console_debug.specs.CursorStates.{CursorState, cursor_state_of, IsSameCursor, IsOn, IsFit}
 use Rattle.console_debug.specs.Debugs.{Attends, StandsWithin}
 
--- all that a command works on: where it stands among the places of a run, and the breakpoints that are set
+-- all that a command works on: the cursor state, and the breakpoints that are set
 pub record DebuggerState (m : ℕ) : Type 0 where
   pub cursor_state : CursorState m
   pub breaks : List ℕ
@@ -35,7 +35,7 @@ IsSameDebugger m old new =
     IsSameCursor m old.cursor new.cursor × (new.assembled.now ≡ old.assembled.now)
     × (new.breaks.ghost_name ≡ old.breaks.ghost_name)
 
--- a debugger that can carry out a command which sets so many breakpoints at most
+-- a debugger that can carry out commands that set at most n breakpoints
 pub record IsReadyFor (m n : ℕ) (d : Debugger m) (seen : Seen) : Type 0 where
   pub fit : IsFit m d.cursor.run.limit (cursor_state_of m d.cursor seen)
   pub tables : HasTables (placed_texts d.assembled.now) d.breaks.now
@@ -45,8 +45,8 @@ pub record IsReadyFor (m n : ℕ) (d : Debugger m) (seen : Seen) : Type 0 where
 abbrev pub moment_of : (m : ℕ) → DebuggerState m → Moment m
 moment_of m x = moment_at m x.cursor_state.at x.cursor_state.seen
 
--- a debugger state is that of a session over a course, which began in a world; the cards and the lines of the keyboard that are left are
--- those of the first place without the ones that were taken so far
+-- a debugger state belongs to a session over a course, which began in a world; the cards and keyboard lines of the first place are left,
+-- without the ones that were taken so far
 pub record StandsIn (m : ℕ) (c : Course) (x : DebuggerState m) (start : World) (s : Session) : Type 0 where
   pub on_it : IsOn m c s.at s.furthest x.cursor_state
   pub breaks_are : x.breaks ≡ s.breaks
@@ -55,7 +55,7 @@ pub record StandsIn (m : ℕ) (c : Course) (x : DebuggerState m) (start : World)
   pub cards : (nth_place c s.furthest).state.hopper ≡ drop (cards_in (session_events c s.acts)) c.first.state.hopper
   pub lines : (nth_place c s.furthest).state.keys ≡ drop (lines_in (session_events c s.acts)) c.first.state.keys
 
--- a debugger state is of a moment within what a session does, which began in a world
+-- a debugger state belongs to a moment within the acts of a session, which began in a world
 abbrev pub StopsIn : (m : ℕ) → Course → DebuggerState m → World → Session → Type 0
 StopsIn m c x start s = StandsWithin m c (moment_of m x) start s.acts
 
@@ -64,14 +64,14 @@ pub record IsCourseOver (limit : ℕ) (placed : List PlacedText) (c : Course) : 
   pub limit_is : c.limit ≡ limit
   pub placed_is : c.placed ≡ placed
 
--- over each such course a session was led to the one that this function gives
+-- over each course with this limit and these statements, a session became the session that f gives
 pub record Does (m limit : ℕ) (placed : List PlacedText) (f : Course → Session → Session) (old new : DebuggerState m) : Type 0 where
   pub told : (c : Course) → IsCourseOver limit placed c → (start : World) (s : Session)
       → StandsIn m c old start s → StandsIn m c new start (f c s)
   pub fit : IsFit m limit new.cursor_state
   pub frames : Attends m old.cursor_state.at.machine new.cursor_state.at.machine old.cursor_state.seen new.cursor_state.seen
 
--- the host failed on the way there
+-- the host failed on the way to that session
 pub record FailsInPart (m limit : ℕ) (placed : List PlacedText) (f : Course → Session → Session) (old new : DebuggerState m) : Type 0 where
   pub told : (c : Course) → IsCourseOver limit placed c → (start : World) (s : Session)
       → StandsIn m c old start s → StopsIn m c new start (f c s)
@@ -83,20 +83,20 @@ abbrev pub CarriesPart : (m limit : ℕ) → List PlacedText → (Course → Ses
 CarriesPart m limit placed f old new sent.Done = Does m limit placed f old new
 CarriesPart m limit placed f old new sent.Failed = FailsInPart m limit placed f old new
 
--- parts of a session are done: of what the first function gives, the second is left
+-- a part of what f does to a session is done, and g is left to do
 pub record PartsUnderway (m limit : ℕ) (placed : List PlacedText) (f g : Course → Session → Session) (first now : DebuggerState m) : Type 0 where
   pub told : (c : Course) → IsCourseOver limit placed c → (start : World) (s : Session) → StandsIn m c first start s → (t : Session) × StandsIn m c now start t × (f c s ≡ g c t)
   pub fit : IsFit m limit now.cursor_state
   pub frames : Attends m first.cursor_state.at.machine now.cursor_state.at.machine first.cursor_state.seen now.cursor_state.seen
 
--- so many steps over kept places: how many of them are left, or the host failed
+-- `count` steps over kept places: how many of them are left, or the host failed
 abbrev pub StepsOver : (m limit : ℕ) → List PlacedText → ℕ → DebuggerState m → DebuggerState m → Option ℕ → Type 0
 StepsOver m limit placed count old new (Some left) = PartsUnderway m limit placed (steps count) (steps left) old new
 StepsOver m limit placed count old new None = FailsInPart m limit placed (steps count) old new
 
--- The move that a step is.
+-- The move of a step.
 
--- the line of the place is printed, and it goes one on
+-- the line of the place is printed, and the session goes on by one place
 abbrev pub step_on : Course → Session → Session
 step_on c s = goes_to (s.at + 1) (says (place_line (nth_place c s.at)) s)
 
@@ -110,7 +110,7 @@ pub record Marks : Type 0 where
 abbrev pub marks : List ℕ → Seen → Marks
 marks breaks seen = record { breaks = breaks; seen = seen }
 
--- by whether the statement is an instruction: the breakpoints change so, or its line is printed
+-- if the statement is an instruction, the breakpoints change by `change`; if not, its line is printed
 abbrev pub SetsIf : Bool → ℕ → (List ℕ → List ℕ) → Marks → Marks → Sent → Type 0
 SetsIf true n change old new how = (new.breaks ≡ change old.breaks) × (new.seen ≡ old.seen) × (how ≡ sent.Done)
 SetsIf false n change old new how =

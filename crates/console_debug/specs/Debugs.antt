@@ -17,16 +17,16 @@ use Rattle.console_debug.specs.declared.debugger.SessionEnd.{SessionEnd}
 use Rattle.console_debug.specs.declared.debugger.SessionEnd.TheVariants as end
 use Rattle.console_debug.specs.Session.{Course, Act, PrintsLine, MakesTurn, Session, nth_place, session_of, at_first, place_as_seen, place_of_session, act_events, session_events, turns_in}
 
--- the units that are written: those of the machine, and Report
+-- the units that a session writes: the machine's units, and Report
 abbrev pub is_said : unit.Unit → Bool
 is_said u = is_written u || same_unit units.Report u
 
--- what stays over a session, which prints lines besides
+-- what stays as it was over a session, which may also write on Report
 abbrev pub Attends : (m : ℕ) → Machine m → Machine m → Seen → Seen → Type 0
 Attends m old new before after = FramesBut is_said m old new before after
 
--- a moment stands where the session does, its breakpoints are set, and all that it does outside was done; the cards and the lines of the
--- keyboard that are left are those of the first place without the ones that were taken
+-- a moment is at the session's place, with its breakpoints, and all that the session does outside was done; the cards and keyboard lines of
+-- the first place are left, without the taken ones
 pub record StandsBy (m : ℕ) (c : Course) (x : Moment m) (breaks : List ℕ) (before : World) (s : Session) : Type 0 where
   pub place : place_in m x ≡ Some (place_of_session c s)
   pub breaks_are : breaks ≡ s.breaks
@@ -34,15 +34,15 @@ pub record StandsBy (m : ℕ) (c : Course) (x : Moment m) (breaks : List ℕ) (b
   pub cards : (place_of_session c s).state.hopper ≡ drop (cards_in (session_events c s.acts)) c.first.state.hopper
   pub lines : (place_of_session c s).state.keys ≡ drop (lines_in (session_events c s.acts)) c.first.state.keys
 
--- where the machine and its units stand within an act, when so many turns were made before: while a line is printed, at the place of the
--- line, outside which all is as those turns left it; within a turn, after a part of it
+-- the place of the machine and its units within an act, after `turns` turns: within a line, the machine is at the line's place, and
+-- all outside is as the turns left it; within a turn, a part of the turn is done
 abbrev pub IsWithinAct : Course → ℕ → Act → RunPlace → Type 0
 IsWithinAct c turns (PrintsLine at text) place = place ≡ place_as_seen (nth_place c at) (nth_place c turns)
 IsWithinAct c turns (MakesTurn from) place = IsCutTurn c.limit (nth_place c from) place
 
 -- ONE MOMENT within a list of acts: the first of them are done, and a part of the next. The machine, its cards and lines, the script, and
--- what was printed, punched, typed and written are all of that moment; the cards and the lines of the keyboard that are left are those of the
--- first place without the ones that were taken so far.
+-- all that was printed, punched, typed and written belong to that moment. The cards and keyboard lines of the first place are left, without
+-- the ones that were taken so far.
 pub record StandsWithin (m : ℕ) (c : Course) (x : Moment m) (before : World) (acts : List Act) : Type 0 where
   pub done : List Act
   pub next : Act
@@ -57,7 +57,7 @@ pub record StandsWithin (m : ℕ) (c : Course) (x : Moment m) (before : World) (
   pub cards : place.state.hopper ≡ drop (cards_in (session_events c done ++ part)) c.first.state.hopper
   pub lines : place.state.keys ≡ drop (lines_in (session_events c done ++ part)) c.first.state.keys
 
--- what a session is given: the limit of steps, the statements as they were placed, and the commands
+-- the task of a session: the limit of steps, the placed statements, and the commands
 pub record SessionTask : Type 0 where
   pub limit : ℕ
   pub placed : List PlacedText
@@ -66,7 +66,7 @@ pub record SessionTask : Type 0 where
 abbrev pub task : ℕ → List PlacedText → List DebugCommand → SessionTask
 task limit placed commands = record { limit = limit; placed = placed; commands = commands }
 
--- what it goes over, from the first place of a run on
+-- the course of its session, from the first place of a run on
 abbrev pub course_of : SessionTask → RunPlace → Course
 course_of t first = record { limit = t.limit; placed = t.placed; first = first }
 
@@ -74,7 +74,7 @@ course_of t first = record { limit = t.limit; placed = t.placed; first = first }
 abbrev pub whole_session : SessionTask → RunPlace → Session
 whole_session t first = session_of t.commands (course_of t first) at_first
 
--- a moment whose count of steps is not told
+-- a moment without its count of steps
 pub record Uncounted (m : ℕ) : Type 0 where
   pub machine : Machine m
   pub script : Script
@@ -86,7 +86,7 @@ without_count m machine script seen = record { machine = machine; script = scrip
 abbrev pub with_count : (m : ℕ) → Uncounted m → ℕ → Moment m
 with_count m x steps = moment m x.machine x.script steps x.seen
 
--- from a told place on the commands were carried out: a session that came to its end
+-- a session that came to its end: if the host reveals the first place, the commands were carried out from there
 pub record EndsSession (m : ℕ) (t : SessionTask) (old : Moment m) (new : Uncounted m) (breaks : List ℕ) : Type 0 where
   pub steps : ℕ
   pub told : IfSome (place_in m old)
@@ -95,7 +95,7 @@ pub record EndsSession (m : ℕ) (t : SessionTask) (old : Moment m) (new : Uncou
   pub lines : All (IsLine (size m)) (lines_left new.script)
   pub frames : Attends m old.at.machine new.machine old.seen new.seen
 
--- the host failed within a session, in one of its acts; its breakpoints may be those of any part of it
+-- the host failed within a session, in one of its acts; its breakpoints are left open
 pub record BreaksSession (m : ℕ) (t : SessionTask) (old : Moment m) (new : Uncounted m) : Type 0 where
   pub steps : ℕ
   pub told : IfSome (place_in m old)

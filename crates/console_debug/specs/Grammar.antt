@@ -15,12 +15,12 @@ most_shown = 1000
 abbrev pub most_back : ℕ
 most_back = 1000
 
--- the cells of a span
+-- SHOW of the cells of a span
 abbrev pub show_of : Span → DebugCommand
 show_of span = command.Show span.first span.count
 
--- the command of a word, and of the words behind it: GO, STEP n, BACK n with n from 1 to 1,000, BREAK s, CLEAR s, SHOW a n with n from 1
--- to 1,000 and all cells in a core of so many positions, QUIT
+-- the command of a word and the words after it: GO, STEP n, BACK n with n from 1 to 1,000, BREAK s, CLEAR s, SHOW a n with n from 1
+-- to 1,000 and all cells in a core of `positions` positions, QUIT
 abbrev pub command_with : ℕ → List ℕ → List (List ℕ) → Option DebugCommand
 command_with positions word behind =
     if bytes_eq word (codes "GO") then alone command.Go behind
@@ -41,7 +41,7 @@ command_of_words positions (word ∷ behind) = command_with positions word behin
 abbrev pub command_of : ℕ → List ℕ → Option DebugCommand
 command_of positions text = command_of_words positions (words_of text)
 
--- the commands that some bytes are; else the number of the first bad line, all lines being counted from 1
+-- the commands in some bytes, or the number of the first bad line; all lines are counted, from 1
 unfoldable pub commands_of : ℕ → List ℕ → Result (List DebugCommand) ℕ
 commands_of positions bytes = items_of_lines (command_of positions) bytes
 

@@ -1,4 +1,4 @@
--- A session: the commands one after another, over the places of a run by their numbers.
+-- A session: the commands one after another, over the numbered places of a run.
 use Rattle.std.specs.Prelude.{ℕ, zero, suc, Bool, true, false, not, ◌+◌, ◌-◌, ◌==◌, ◌&&◌, nat_le, nat_lt, max, List, [], ◌∷◌, ◌++◌, length, Option, Some, None, if◌then◌else◌}
 use Rattle.std.specs.List.{filter}
 use Rattle.outside_io.specs.declared.host.Unit.TheVariants as units
@@ -12,28 +12,26 @@ use Rattle.console_debug.specs.declared.commands.DebugCommand.TheVariants as com
 use Rattle.console_debug.specs.Lines.{ending_line, at_line, break_line, no_statement_line, no_back_line, show_line}
 use Rattle.console_debug.specs.Places.{Reached, later, is_instruction_at, turns_to_stop, turns_to_step}
 
--- what a session goes over: the places of a run from its first on, under a limit, and the statements as they were placed
+-- the course of a session: the places of a run from the first on, under a limit, and the placed statements
 pub record Course : Type 0 where
   pub limit : ℕ
   pub placed : List PlacedText
   pub first : RunPlace
 
--- the place with a number, that of the first being 0; behind the last it's the last
+-- the place with number n; the first place has number 0, and a number after the last gives the last place
 abbrev pub nth_place : Course → ℕ → RunPlace
 nth_place c n = last_within c.limit n c.first
 
--- the places behind it
+-- the places after the place with number n
 abbrev pub places_ahead : Course → ℕ → List Reached
 places_ahead c n = later c.limit (nth_place c n)
 
--- what a session does: a line is printed, while the machine stands at the place with this number; or the turn is made that leads on from
--- the place with this number
+-- an act of a session: it prints a line while the machine is at the place with this number, or it makes the turn from there
 pub data Act : Type 0 where
   PrintsLine : (at : ℕ) (text : List ℕ) → Act
   MakesTurn : (from : ℕ) → Act
 
--- the number of the place where a session stands, that of the furthest place that it has reached, its breakpoints, and all that it has
--- done, in its order
+-- a session: the numbers of its current place and of the furthest place reached, its breakpoints, and all its acts, in order
 pub record Session : Type 0 where
   pub at : ℕ
   pub furthest : ℕ
@@ -43,13 +41,12 @@ pub record Session : Type 0 where
 abbrev pub says : List ℕ → Session → Session
 says line s = record s { acts = s.acts ++ PrintsLine s.at line ∷ [] }
 
--- so many turns, one after another, the first of which leads on from the place with this number
+-- k turns, one after another; the first turn leads on from the place with number n
 unfoldable pub turns_from : ℕ → ℕ → List Act
 turns_from n zero = []
 turns_from n (suc k) = MakesTurn n ∷ turns_from (suc n) k
 
--- on to the place with a number: the turns behind the furthest place are made, and those up to there, which were made before, are not made
--- again
+-- on to the place with number n: the turns after the furthest place are made; the earlier turns are not made again
 abbrev pub goes_to : ℕ → Session → Session
 goes_to n s = record s {
   at = n;
@@ -65,13 +62,13 @@ place_line p = at_line p.state.regs.ir p.steps
 abbrev pub end_line : RunPlace → List ℕ
 end_line p = ending_line (ending_of p.state) p.steps
 
--- to the end of the run, whose line is printed
+-- to the end of the run, and the line of the ending
 abbrev pub to_end : Course → Session → Session
 to_end c s =
     let last = s.at + length (places_ahead c s.at) in
     says (end_line (nth_place c last)) (goes_to last s)
 
--- GO: to the next stop, or to the end where there is none
+-- GO: to the next stop, or to the end if no stop follows
 abbrev pub to_stop : Course → Session → Option ℕ → Session
 to_stop c s None = to_end c s
 to_stop c s (Some turns) =
@@ -81,12 +78,12 @@ to_stop c s (Some turns) =
 abbrev pub go : Course → Session → Session
 go c s = to_stop c s (turns_to_stop c.placed s.breaks (places_ahead c s.at))
 
--- to the place of a step, whose line is printed there, and one on
+-- to the place of a step, the line of the place, and on to the next place
 abbrev pub session_after_step : Course → Session → ℕ → Session
 session_after_step c s turns =
     goes_to (s.at + turns + 1) (says (place_line (nth_place c (s.at + turns))) (goes_to (s.at + turns) s))
 
--- STEP n: to the next step, so many times, or to the end where there is none
+-- STEP n: the next step, n times, or to the end if no step follows
 unfoldable pub steps : ℕ → Course → Session → Session
 steps zero c s = s
 steps (suc n) c s = elim (turns_to_step (places_ahead c s.at)) [
@@ -98,14 +95,14 @@ steps (suc n) c s = elim (turns_to_step (places_ahead c s.at)) [
 abbrev pub is_kept : Session → ℕ → Bool
 is_kept s n = nat_lt (s.furthest - n) most_places
 
--- BACK n: so many places back, where there are as many and that one is kept
+-- BACK n: n places back, if there are that many and the place is kept
 abbrev pub back : ℕ → Course → Session → Session
 back n c s =
     if nat_le n s.at && is_kept s (s.at - n)
     then says (place_line (nth_place c (s.at - n))) (record s { at = s.at - n })
     else says (no_back_line n) s
 
--- the breakpoints with that of a statement, and without it, wherever it was set
+-- the breakpoints with one more, of a statement, and without all breakpoints of a statement
 abbrev pub with_break : ℕ → List ℕ → List ℕ
 with_break n breaks = breaks ++ n ∷ []
 
@@ -151,8 +148,8 @@ session_of (x ∷ xs) c s = if is_quit x then s else session_of xs c (session_af
 abbrev pub at_first : Session
 at_first = record { at = 0; furthest = 0; breaks = []; acts = [] }
 
--- WHAT A SESSION SHOWS: within the machine the place where it stands; outside it, by the cards and the keyboard's lines
--- that are left, the script, the texts and the sectors, the furthest place that it has reached
+-- WHAT A SESSION SHOWS: inside the machine, its current place; outside, the furthest place that it has reached. The outside is the
+-- cards and keyboard lines that are left, the script, the texts and the sectors.
 abbrev pub place_as_seen : RunPlace → RunPlace → RunPlace
 place_as_seen at furthest = record {
   state = record furthest.state {
@@ -169,8 +166,8 @@ place_as_seen at furthest = record {
 abbrev pub place_of_session : Course → Session → RunPlace
 place_of_session c s = place_as_seen (nth_place c s.at) (nth_place c s.furthest)
 
--- What a session does outside: the bytes of its lines on Report, and what its turns punch, type, write and take of cards and of Keys, in the
--- order in which it does them.
+-- What a session does outside, in order: the bytes of its lines on Report, the bytes and sectors that its turns write, and the cards and
+-- lines of Keys that its turns take.
 
 abbrev pub act_events : Course → Act → List Event
 act_events c (PrintsLine at text) = text_events units.Report text

@@ -14,25 +14,25 @@ use sps_pass_two::{Assembled, Placed};
 use std::alloc::{AllocError, Global};
 use std::vec::Vec;
 
-// The statements whose breakpoints are set, as a session leaves them; and while it goes on, what tells at once whether one is set at an
-// address. So no list is looked through while a run is under way, nor where a breakpoint is cleared.
+// The statements whose breakpoints are set at the end of a session, and the tables of a session that goes on. The tables show at once
+// whether a breakpoint is set at an address in core. So no list is searched during a run, or to clear a breakpoint.
 #[derive(Drop)]
 pub(crate) struct Breaks {
     pub(crate) statements: Vec<u64>,
-    // The statement of each breakpoint that was set in this session, in their order, be it cleared since or not.
+    // The statement of each breakpoint that was set in this session, in order, even if it was cleared later.
     pub(crate) log: Vec<u64>,
-    // By the number of a statement: from which entry of the log on those of the statement count.
+    // By statement number: the number of the first log entry that can count for the statement.
     pub(crate) since: Vec<usize>,
-    // By the number of a statement: how many of its entries count.
+    // By statement number: how many of the statement's entries count.
     pub(crate) times: Vec<usize>,
-    // By an address: how many entries count whose statement is there.
+    // By address: how many entries count whose statement is at the address.
     pub(crate) counts: Vec<usize>,
-    // By an address: the number of the last instruction there, 0 where there is none.
+    // By address: the number of the last instruction there, or 0 without an instruction.
     pub(crate) numbers: Vec<u32>,
 }
 
 impl Breaks {
-    // Room for so many breakpoints, none of which is set, in a core of so many positions.
+    // Makes room for `count` breakpoints in a core of `positions` positions. No breakpoint is set.
     pub(crate) fn with_room(
         alloc: Global,
         count: usize,
@@ -58,7 +58,7 @@ impl Breaks {
         })
     }
 
-    // Clears them all, for a session over these statements.
+    // Clears all breakpoints, for a session over these statements.
     pub(crate) fn clear_all(&mut self, assembled: &Assembled)
         requires { HasRoomIn 0 self.old }
         ensures none_set { set_now self.new ≡ [] }
@@ -73,7 +73,7 @@ impl Breaks {
         fill_numbers(&mut self.numbers, assembled);
     }
 
-    // Sets the breakpoint of a statement, where it is an instruction; whether it is.
+    // Sets the breakpoint of a statement if it is an instruction. The answer is whether it is.
     pub(crate) fn set(&mut self, assembled: &Assembled, statement: u64) -> bool
         requires room { HasRoomIn (vec_len self.old.log + 1) self.old }
         requires tables { HasTables (placed_texts assembled.now) self.old }
@@ -92,7 +92,7 @@ impl Breaks {
         true
     }
 
-    // Clears the breakpoint of a statement, wherever it was set, where it is an instruction; whether it is.
+    // Clears all breakpoints of a statement if it is an instruction. The answer is whether it is.
     pub(crate) fn clear(&mut self, assembled: &Assembled, statement: u64) -> bool
         requires tables { HasTables (placed_texts assembled.now) self.old }
         ensures is { result ≡ is_instruction_at (placed_texts assembled.now) statement }
@@ -123,7 +123,7 @@ impl Breaks {
         self.has_break_beyond(assembled, ir)
     }
 
-    // The same for an address that the table of counts does not reach.
+    // Whether a breakpoint is set at an address beyond the table of counts.
     fn has_break_beyond(&self, assembled: &Assembled, ir: u32) -> bool
         requires { HasTables (placed_texts assembled.now) self.now }
         ensures { result ≡ has_break (placed_texts assembled.now) (set_now self.now) ir }
@@ -140,7 +140,7 @@ impl Breaks {
         false
     }
 
-    // Whether the entry of the log with this number counts, which is this statement's.
+    // Whether the log entry with this number, of this statement, counts.
     fn is_set(&self, number: usize, statement: u64) -> bool
         ensures { result ≡ is_set (since_of self.now.since.items) number statement }
     {
@@ -150,7 +150,7 @@ impl Breaks {
         }
     }
 
-    // The number of the last instruction at an address, 0 where there is none.
+    // The number of the last instruction at an address, or 0 without an instruction.
     pub(crate) fn statement_number(&self, assembled: &Assembled, at: u32) -> u32
         requires { HasTables (placed_texts assembled.now) self.now }
         ensures { result ≡ statement_number (placed_texts assembled.now) at }
@@ -162,7 +162,7 @@ impl Breaks {
         statement_at(assembled, at).unwrap_or(0)
     }
 
-    // Keeps the statements whose breakpoints are set, behind a session.
+    // At the end of a session, keeps the statements whose breakpoints are set.
     pub(crate) fn settle(&mut self)
         requires { HasRoomIn (vec_len self.old.log) self.old }
         ensures statements { self.new.statements.items ≡ set_now self.old }
@@ -179,7 +179,7 @@ impl Breaks {
     }
 }
 
-// One more at a place of a table, where it reaches so far.
+// Adds 1 at an index of a table, if the table has that index.
 fn raise(table: &mut Vec<usize>, at: usize)
     requires { slice_index_or table.old.items at 0 < 2 ^ 63 }
     ensures { table.new.items ≡ slice_set table.old.items at (slice_index_or table.old.items at 0 + 1) }
@@ -189,7 +189,7 @@ fn raise(table: &mut Vec<usize>, at: usize)
     }
 }
 
-// So many fewer at a place of a table, where it reaches so far.
+// Subtracts a number at an index of a table, if the table has that index.
 fn lower(table: &mut Vec<usize>, at: usize, by: usize)
     requires { at < length table.old.items → by ≤ slice_index_or table.old.items at 0 }
     ensures { table.new.items ≡ slice_set table.old.items at (slice_index_or table.old.items at 0 - by) }
@@ -199,7 +199,7 @@ fn lower(table: &mut Vec<usize>, at: usize, by: usize)
     }
 }
 
-// A number at a place of a table, where it reaches so far.
+// Stores a number at an index of a table, if the table has that index.
 fn put(table: &mut Vec<u32>, at: usize, number: u32)
     ensures { table.new.items ≡ slice_set table.old.items at number }
 {
@@ -208,7 +208,7 @@ fn put(table: &mut Vec<u32>, at: usize, number: u32)
     }
 }
 
-// Fills the table of the numbers of statements.
+// Fills the table of statement numbers by address.
 fn fill_numbers(numbers: &mut Vec<u32>, assembled: &Assembled)
     ensures { AreNumbersByAddress (placed_texts assembled.now) numbers.new.items }
 {
@@ -244,7 +244,7 @@ fn instruction_address(placed: &Placed) -> Option<u64>
     }
 }
 
-// The address of a statement, where it is an instruction; the first statement is 1.
+// The address of a statement if it is an instruction; the first statement has number 1.
 fn statement_address(assembled: &Assembled, statement: u64) -> Option<u64>
     ensures { result ≡ statement_address (placed_texts assembled.now) statement }
 {

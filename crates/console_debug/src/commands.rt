@@ -18,16 +18,16 @@ const MOST_SHOWN: u32 = 1_000;
 // How many places one command goes back at most.
 const MOST_BACK: u64 = 1_000;
 
-/// What the debugger is told to do.
+/// A command of the debugger.
 ///
-/// Statements are counted from 1, addresses and cells are those of core.
+/// Statements are counted from 1; addresses and cells are in core.
 #[derive(Clone, Copy, Debug, PartialEq, Eq)]
 pub enum DebugCommand {
     /// `GO`: run up to a breakpoint, or to the end of the run.
     Go,
-    /// `STEP n`: execute so many instructions, or go to the end of the run.
+    /// `STEP n`: execute n instructions, or go to the end of the run.
     Step(u64),
-    /// `BACK n`: go back so many places, 1 to 1,000.
+    /// `BACK n`: go back n places, 1 to 1,000.
     Back(u64),
     /// `BREAK s`: set the breakpoint of a statement.
     Break(u64),
@@ -74,7 +74,7 @@ impl From<LineFault> for CommandFault {
     }
 }
 
-// How the lines of commands are read, for a core of so many positions.
+// How command lines are read, for a core of `positions` positions.
 #[derive(Drop)]
 struct CommandGrammar {
     positions: u32,
@@ -100,15 +100,15 @@ pub struct Commands {
 }
 
 impl Commands {
-    /// Reads the debugger's commands, for a core of so many positions.
+    /// Reads the debugger's commands, for a core of `positions` positions.
     ///
-    /// A line is ended by a LF, a last line without LF counts where it has a byte, and one CR at a line's end is dropped. Empty lines
-    /// are passed over. Each other line is words, parted by one blank, with no blank at its ends: `GO`, `STEP n`, `BACK n`,
-    /// `BREAK s`, `CLEAR s`, `SHOW a n` or `QUIT`. A number has 1 to 15 decimal digits; that of `BACK` is 1 to 1,000. `SHOW` shows 1 to
-    /// 1,000 cells, all of which are in core. Words are in capitals.
+    /// A line ends with a LF; a last line without LF counts if it has a byte. One CR at a line's end is dropped. Empty lines
+    /// are passed over. Each other line is words with one blank between them and no blank at its ends: `GO`, `STEP n`, `BACK n`,
+    /// `BREAK s`, `CLEAR s`, `SHOW a n` or `QUIT`. A number has 1 to 15 decimal digits; the n of `BACK` is 1 to 1,000. `SHOW` shows 1 to
+    /// 1,000 cells, all in core. Words are in capitals.
     ///
-    /// No breakpoint is set at first, and there is room for one for each `BREAK`, and for what a session tells of the statements and
-    /// addresses of those that are set.
+    /// No breakpoint is set at first. There is room for one breakpoint for each `BREAK`, and for a session's tables of breakpoints by
+    /// statement and by address.
     ///
     /// The errors are the first line outside this grammar, by its number, and want of memory for the commands and that room.
     pub fn read(alloc: Global, bytes: &[u8], positions: u32) -> Result<Commands, CommandFault>
@@ -144,14 +144,14 @@ fn count_breaks(list: &[DebugCommand]) -> usize
     list.iter().filter(|command| is_break(**command)).count()
 }
 
-// Whether it is `BREAK s`.
+// Whether a command is `BREAK s`.
 fn is_break(command: DebugCommand) -> bool
     ensures { result ≡ is_break command }
 {
     matches!(command, DebugCommand::Break(_))
 }
 
-// The command of a text: its word, and the arguments that stand behind it.
+// The command in a text: its word, and the arguments after it.
 fn command_of(text: &[u8], positions: u32) -> Option<DebugCommand>
     ensures value { result ≡ command_of positions text.now }
     ensures fits { IfSome result (IsCommand positions) }

@@ -37,37 +37,37 @@ pub enum SessionEnd {
 
 /// Carries out the debugger's commands, one after another, up to `QUIT` or their end, and prints on Report.
 ///
-/// The run is that of this machine under this script, up to `limit` executed instructions; their count begins at 0. `assembled` says
+/// The run uses this machine and this script, and executes up to `limit` instructions; their count begins at 0. `assembled` says
 /// which statement is an instruction, and at which address. No breakpoint is set at the beginning, whatever earlier sessions set.
 ///
-/// - `GO` runs on until an executed instruction has led to the address of a statement whose breakpoint is set, and prints the line
-///   `BREAK`, with the statement, the address and the count. Where that comes no more, it runs to the end of the run, and prints the
-///   line of that ending.
-/// - `STEP n` executes so many instructions, and prints a line `AT` before each, with its address and the count. Where the run ends
+/// - `GO` runs on until an executed instruction has led the running machine to the address of a statement whose breakpoint is set. It
+///   prints the line `BREAK`, with the last instruction there, the address and the count. If no stop follows, it runs to the end of
+///   the run, and prints the line of that ending.
+/// - `STEP n` executes n instructions, and prints a line `AT` before each, with its address and the count. If the run ends
 ///   before, it prints the line of the ending, once.
-/// - `BACK n` goes back to the place `n` places before this one, and prints its line `AT`. Where there are not as many, or where
-///   that place is more than 1,000 before the furthest one that was reached, it prints `NO BACK` and the number, and stays.
-/// - `BREAK s` sets the breakpoint of a statement, `CLEAR s` clears it; for a statement that is no instruction they print
+/// - `BACK n` goes back to the place n places before this place, and prints its line `AT`. If there are fewer places, or if
+///   that place is more than 1,000 before the furthest place that was reached, it prints `NO BACK` and the number, and stays.
+/// - `BREAK s` sets the breakpoint of a statement, `CLEAR s` clears it; for a statement that is not an instruction they print
 ///   `NO STATEMENT` and its number.
-/// - `SHOW a n` prints cells of core as object characters, behind the address of the first; a bad cell is `?`.
-/// - `QUIT` ends the session; commands behind it are not carried out.
+/// - `SHOW a n` prints the address of the first cell, and then n cells of core as object characters; a bad cell is `?`.
+/// - `QUIT` ends the session; commands after it are not carried out.
 ///
-/// A place is where the run stands before a turn: an executed instruction, or what the operator's script does. With `BACK` goes what is
-/// within the machine: core, registers, indicators and switches, arms, mode, and the count. What is outside stays that of the furthest
-/// place: the cards and the keyboard's lines that are left, the script, the texts and the sectors. `GO` and `STEP` then lead over the same
-/// places again, and none of their turns is made twice: no card is read and nothing is typed or punched a second time.
+/// A place is the state of the run before a turn. A turn is an executed instruction or an action of the operator's script. `BACK` sets
+/// back all that is inside the machine: core, registers, indicators and switches, arms, mode, and the count. All outside stays as at the
+/// furthest place: the cards and the keyboard's lines that are left, the script, the texts and the sectors. `GO` and `STEP` then lead over
+/// the same places again, and make no turn twice: no card is read and nothing is typed or punched a second time.
 ///
-/// What the operator's script does on the way is part of the run, and no instruction. A run that has ended stays so: each later `GO`,
-/// and each `STEP` of one instruction or more, prints the line of its ending again. No memory is taken: `rewind` has room for the places,
-/// and keeps none at the beginning.
+/// An action of the operator's script is part of the run, and not an instruction. At the last place of the run each further `GO`,
+/// and each `STEP` of one instruction or more, prints the line of the ending again. A session takes no memory: `rewind` has room for the
+/// places, and keeps none at the beginning.
 ///
-/// All that the session does is one list, in its order: its lines, and the turns that it makes, with what each of them punches, types,
-/// writes on the pack, and takes of cards and of the keyboard's lines. At the end all of it was done, and nothing else: as many cards and
-/// lines are gone as stand in the list. No card and no line is asked for before its turn, if none was before.
+/// All that the session does is one list, in order: its lines, and its turns, with the bytes that each turn punches and types, the
+/// sectors that it writes, and the cards and keyboard lines that it takes. At the end the session has done the whole list, and nothing
+/// else: it has taken the cards and lines of the list. It asks for no card or line before it needs it, if that was so before.
 ///
-/// `Failed` only where the host's count of faults rose: a first part of that list was done, up to a part of one line or of one turn. What
-/// was printed, punched and typed, the sectors, the machine, the cards and the keyboard's lines that are left, and the script are all of
-/// that one moment: where a line was cut short, behind all turns before it; within a turn that was cut short, behind a part of it.
+/// `Failed` only if the host's count of faults rose: the session did a first part of that list, up to a part of one line or of one turn.
+/// The printed, punched and typed bytes, the sectors, the machine, the cards and keyboard lines that are left, and the script all belong
+/// to that moment. If a line was cut short, all turns before it are done; if a turn was cut short, a part of that turn is done.
 pub fn session<const M: u32, H: Host>(
     machine: &mut Machine<M>,
     script: &mut Script,
@@ -114,14 +114,14 @@ pub fn session<const M: u32, H: Host>(
     }
 }
 
-// Whether it is `QUIT`.
+// Whether a command is `QUIT`.
 fn is_quit(command: DebugCommand) -> bool
     ensures { result ≡ does.is_quit command }
 {
     matches!(command, DebugCommand::Quit)
 }
 
-// What a session works on: where it stands among the places of the run, the statements as they were placed, and the breakpoints.
+// What a session works on: its cursor over the places of the run, the placed statements, and the breakpoints.
 #[derive(Drop)]
 struct Debugger<'r, 'k, 'a, 'b, const M: u32> {
     cursor: Cursor<'r, 'k, M>,
@@ -211,7 +211,7 @@ fn set_break<H: Host>(
     }
 }
 
-// Clears the breakpoint of a statement, where it is an instruction.
+// Clears the breakpoint of a statement if it is an instruction; if not, prints NO STATEMENT.
 fn clear_break<H: Host>(
     assembled: &Assembled,
     statement: u64,

@@ -1,4 +1,4 @@
-// What the commands do that move along the run, and their lines.
+// The commands that move along the run, and their lines.
 ghost use Rattle.std.specs.Prelude.{◌≡◌, ◌<◌, ℕ, IfSome, List, true};
 ghost use Rattle.sps_listing.specs.Listing.{placed_texts};
 ghost use Rattle.sps_pass_two.specs.Assembled.{PlacedText};
@@ -15,7 +15,7 @@ use outside_io::{Host, Sent, Unit, write_all};
 use sps_pass_two::Assembled;
 
 impl<const M: u32> Cursor<'_, '_, M> {
-    // To the next stop, or to the end of the run, and its line.
+    // Moves to the next stop, or to the end of the run, and prints its line.
     pub(crate) fn go<H: Host>(
         &mut self,
         assembled: &Assembled,
@@ -45,7 +45,7 @@ impl<const M: u32> Cursor<'_, '_, M> {
         }
     }
 
-    // So many steps, each behind its line, or to the end of the run.
+    // Makes `count` steps, each after its line, or moves to the end of the run.
     pub(crate) fn step<H: Host>(&mut self, count: u64, host: &mut H) -> Sent
         requires { IsFit M self.old.run.limit (cursor_state_of M self.old (H.seen host.old)) }
         ensures same { IsSameCursor M self.old self.new }
@@ -77,8 +77,8 @@ impl<const M: u32> Cursor<'_, '_, M> {
         Sent::Done
     }
 
-    // So many steps over the places that are kept, each behind its line, as far as these places lead; how many steps are left, or None where
-    // the host failed. The machine is brought to the place where this ends alone.
+    // Makes up to `count` steps over the kept places, each after its line. The answer is how many steps are left, or None if the host
+    // failed. The machine is brought only to the last of these places.
     fn step_kept<H: Host>(&mut self, count: u64, host: &mut H) -> Option<u64>
         requires { IsFit M self.old.run.limit (cursor_state_of M self.old (H.seen host.old)) }
         ensures same { IsSameCursor M self.old self.new }
@@ -113,7 +113,7 @@ impl<const M: u32> Cursor<'_, '_, M> {
         Some(left)
     }
 
-    // The line of the step that comes next, and the step.
+    // Prints the line of the next step, and makes the step.
     fn make_step<H: Host>(&mut self, host: &mut H) -> Sent
         requires sound { IsFit M self.old.run.limit (cursor_state_of M self.old (H.seen host.old)) }
         requires next { IsStepAhead M self.old.run.limit (cursor_state_of M self.old (H.seen host.old)) true }
@@ -139,7 +139,7 @@ impl<const M: u32> Cursor<'_, '_, M> {
         }
     }
 
-    // So many places back, and the line of the place; or the line of so many that cannot be gone back.
+    // Moves `count` places back and prints the line of the place, or prints NO BACK if this is not possible.
     pub(crate) fn back<H: Host>(&mut self, count: u64, host: &mut H) -> Sent
         requires { IsFit M self.old.run.limit (cursor_state_of M self.old (H.seen host.old)) }
         ensures same { IsSameCursor M self.old self.new }

@@ -1,4 +1,4 @@
-// How the place behind a step is kept.
+// How the place after a step is kept.
 ghost use Rattle.std.specs.Prelude.{◌≡◌, ◌<◌, IfSome, List, ℕ, length};
 ghost use Rattle.digit_core.specs.Size.{size};
 ghost use Rattle.cpu_step.specs.Stores.{StoresBelow, StoresWithin};
@@ -9,7 +9,8 @@ use cpu_step::{Machine, Stores};
 use digit_core::Core;
 use rewind_log::Rewind;
 
-// Keeps the place behind a step that may have stored in these cells alone: of core, the words in which they lie are copied.
+// Keeps the place after a step that may have stored only in these cells. Only the words of core with these cells are copied. If the
+// cells are unknown, core is compared.
 #[inline]
 pub(crate) fn keep_step<const M: u32>(
     rewind: &mut Rewind<M>,
@@ -28,8 +29,8 @@ pub(crate) fn keep_step<const M: u32>(
     }
 }
 
-// The words in which the cells lie that a step may have stored, core being that behind the step: from one number on, and below another.
-// None where nothing is known of these cells.
+// The words with the cells that a step may have stored: from the first number on, and below the second. `core` is core after the step.
+// None if the cells are unknown.
 #[inline]
 fn stored_words<const M: u32>(core: &Core<M>, stores: Stores) -> Option<(u32, u32)>
     requires { StoresBelow stores (size M) }

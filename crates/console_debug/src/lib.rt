@@ -1,10 +1,10 @@
-//! The debugger: the commands that are given to it, and how they are carried out.
+//! The debugger: its commands, and how they are carried out.
 //!
-//! The commands are a text of lines, each of which is a command. A text with a bad line gives no commands; the first such line is told
-//! by its number. Beside the commands stand the breakpoints that they set: there is room for each of them from the beginning.
+//! The commands are a text of lines; each line is a command. A text with a bad line gives no commands: the error is the number of the
+//! first bad line. `Commands` also has the breakpoints that the commands set, with room for each of them from the beginning.
 //!
-//! A session carries the commands out, one after another, over a machine that runs under the operator's script: it goes over the places
-//! of that run, and prints its lines on Report. The last places are kept: it may go back to one of them, and on over them again.
+//! A session carries out the commands, one after another, while a machine runs under the operator's script. It moves over the places
+//! of that run, and prints its lines on Report. It keeps the last places: it can go back to one of them, and over them again.
 #![tactic(auto)]
 
 mod breaks;

@@ -21,8 +21,8 @@ pub(crate) const LONGEST_SHOWN: usize = 1024;
 /// The line of a run's end, with its LF: how the run ended, the address that belongs to it in five digits, and `STEPS` with the count of
 /// executed instructions. It is empty after a fault of the host.
 ///
-/// `steps` is that count. A check stop has its number in two digits, and a line that is too long its unit and its number in place of
-/// an address and steps; a run that reached its limit has no address.
+/// `steps` is that count. The line of a check stop also has the stop's number in two digits. The line of a jam has the unit and the number
+/// of the input line that is too long, instead of an address and steps. A run that reached its limit has no address.
 /// Source: this project's own.
 pub fn ending_line(how: Ending, steps: u64) -> ArrayString<LONGEST_LINE>
     ensures { result.bytes ≡ ending_line how steps }
@@ -45,7 +45,7 @@ pub(crate) fn at_line(at: u32, steps: u64) -> ArrayString<LONGEST_LINE>
     steps_line("AT ", at, steps)
 }
 
-// The line of a breakpoint at an address, where this is the number of the last instruction, or 0 where there is none.
+// The line of a breakpoint at an address. `statement` is the number of the last instruction there, or 0 without an instruction.
 pub(crate) fn break_line(statement: u32, at: u32, steps: u64) -> ArrayString<LONGEST_LINE>
     ensures { (placed : List PlacedText) → statement ≡ statement_number placed at → result.bytes ≡ break_line placed at steps }
 {
@@ -64,7 +64,7 @@ pub(crate) fn no_statement_line(statement: u64) -> ArrayString<LONGEST_LINE>
     counted_line("NO STATEMENT ", statement)
 }
 
-// The line of so many places that cannot be gone back.
+// The line of a BACK over n places that is not possible.
 pub(crate) fn no_back_line(n: u64) -> ArrayString<LONGEST_LINE>
     ensures { result.bytes ≡ no_back_line n }
 {
@@ -104,7 +104,7 @@ fn address_text(at: u32) -> ArrayString<LONGEST_LINE>
     text
 }
 
-// A cell as an object character; a bad one is `?`.
+// A cell as an object character; a bad cell is `?`.
 fn shown_cell(cell: Result<Digit, CellFault>) -> u8
     requires { IfOk cell IsGood }
     ensures { result ≡ shown_cell cell }

@@ -1,4 +1,4 @@
-// How the places of a run are gone over, up to a stop or to a step.
+// Moves over the places of a run, up to a stop or to a step.
 ghost use Rattle.std.specs.Prelude.{◌≡◌, ◌<◌, IfSome, false, length, slice_get};
 ghost use Rattle.outside_io.specs.World.{Seen};
 ghost use Rattle.sps_listing.specs.Listing.{placed_texts};
@@ -22,7 +22,7 @@ fn stands_at_break<const M: u32>(run: &Run<M>, assembled: &Assembled, breaks: &B
     is_at_break(assembled, breaks, run.machine.mode, run.machine.regs.ir)
 }
 
-// Whether a machine that is in this mode runs at a breakpoint.
+// Whether a machine with this mode and this IR runs at a breakpoint.
 fn is_at_break(assembled: &Assembled, breaks: &Breaks, mode: Mode, ir: u32) -> bool
     requires { HasTables (placed_texts assembled.now) breaks.now }
     ensures { result ≡ is_at_break (placed_texts assembled.now) (set_now breaks.now) mode ir }
@@ -34,7 +34,8 @@ fn is_at_break(assembled: &Assembled, breaks: &Breaks, mode: Mode, ir: u32) -> b
 }
 
 impl<const M: u32> Cursor<'_, '_, M> {
-    // On to the next place behind a step at a breakpoint, or to the end of the run; how it ended, or None at such a place.
+    // Moves on to the next stop, a place at a breakpoint after a step, or to the end of the run. The answer is the ending, or None at
+    // a stop.
     pub(crate) fn to_stop<H: Host>(
         &mut self,
         assembled: &Assembled,
@@ -64,8 +65,8 @@ impl<const M: u32> Cursor<'_, '_, M> {
         }
     }
 
-    // On over the places that are kept, to the first one behind a step at a breakpoint, or else to the newest; whether it is at a
-    // breakpoint. The machine is brought to that place alone.
+    // Moves on over the kept places, to the first stop or else to the newest place. The answer is whether it is a stop. The machine is
+    // brought only to that place.
     fn to_kept_stop(&mut self, assembled: &Assembled, breaks: &Breaks) -> bool
         requires few { self.old.behind < length self.old.rewind.now }
         requires tables { HasTables (placed_texts assembled.now) breaks.now }
@@ -108,7 +109,8 @@ impl<const M: u32> Cursor<'_, '_, M> {
         )
     }
 
-    // From the furthest place on to that of the next step, or to the end of the run; how it ended, or None where a step comes next.
+    // Moves on from the furthest place to the place of the next step, or to the end of the run. The answer is the ending, or None if a
+    // step comes next.
     pub(crate) fn to_step<H: Host>(&mut self, host: &mut H) -> Option<Ending>
         requires fit { IsFit M self.old.run.limit (cursor_state_of M self.old (H.seen host.old)) }
         requires furthest { self.old.behind ≡ 0 }

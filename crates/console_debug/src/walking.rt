@@ -1,4 +1,4 @@
-// Where a session stands among the places of a run: moves from one place to the next, be it made by a turn or kept, and back to a kept one.
+// The cursor of a session: it moves to the next place of a run, by a turn or to a kept place, and back to a kept place.
 ghost use Rattle.std.specs.Prelude.{◌≡◌, ◌<◌, ◌≤◌, IfSome, length, slice_get};
 ghost use Rattle.outside_io.specs.World.{Seen};
 ghost use Rattle.operator_script.specs.Run.{IsSameRun, standing_of};
@@ -9,8 +9,7 @@ use operator_script::{Run, TurnEnd};
 use outside_io::Host;
 use rewind_log::Rewind;
 
-// Where a session stands among the places of a run: the run, the places of it that are kept, and how many of these lie behind the one where
-// it stands.
+// The cursor of a session over the places of a run: the run, its kept places, and how many kept places come after the current place.
 #[derive(Drop)]
 pub(crate) struct Cursor<'r, 'k, const M: u32> {
     pub(crate) run: Run<'r, M>,
@@ -19,7 +18,7 @@ pub(crate) struct Cursor<'r, 'k, const M: u32> {
 }
 
 impl<const M: u32> Cursor<'_, '_, M> {
-    // On by one place from the furthest on, where it stands: a turn is made, and the place to which it led is kept.
+    // Moves on by one place from the furthest place: makes a turn, and keeps the place to which the turn led.
     pub(crate) fn advance<H: Host>(&mut self, host: &mut H) -> TurnEnd
         requires fit { IsFit M self.old.run.limit (cursor_state_of M self.old (H.seen host.old)) }
         requires furthest { self.old.behind ≡ 0 }
@@ -32,7 +31,7 @@ impl<const M: u32> Cursor<'_, '_, M> {
         make_turn(&mut self.run, self.rewind, host)
     }
 
-    // So many places back, where as many are kept before the one where it stands; whether it went there.
+    // Moves n places back, if that many are kept before the current place. The answer is whether it moved.
     pub(crate) fn go_back(&mut self, n: u64) -> bool
         requires few { self.old.behind < length self.old.rewind.now }
         ensures same { IsSameCursor M self.old self.new }
@@ -50,7 +49,7 @@ impl<const M: u32> Cursor<'_, '_, M> {
         true
     }
 
-    // A kept place is gone to.
+    // Brings the machine to kept place number `i`.
     pub(crate) fn go_to_kept(&mut self, i: u32)
         requires { i < length self.old.rewind.now }
         ensures same { KeepsScriptAndPlaces M self.old self.new }
@@ -63,7 +62,7 @@ impl<const M: u32> Cursor<'_, '_, M> {
         self.rewind.restore(i, machine);
     }
 
-    // On to the kept place behind which so many are kept, where it does not stand there.
+    // Moves on to the kept place with `behind` kept places after it, if this is not the current place.
     pub(crate) fn go_up_to(&mut self, behind: u32)
         requires order { behind ≤ self.old.behind }
         requires few { self.old.behind < length self.old.rewind.now }
@@ -79,7 +78,7 @@ impl<const M: u32> Cursor<'_, '_, M> {
         }
     }
 
-    // Whether a step comes next, behind the furthest place.
+    // Whether a step comes next after the furthest place.
     pub(crate) fn is_step_ahead(&self) -> bool
         requires { self.now.behind ≡ 0 }
         ensures { (seen : Seen) → IsStepAhead M self.now.run.limit (cursor_state_of M self.now seen) result }
@@ -88,7 +87,7 @@ impl<const M: u32> Cursor<'_, '_, M> {
     }
 }
 
-// A turn from the furthest place on, which leads to the next one; that is kept.
+// Makes a turn from the furthest place, and keeps the place to which it leads.
 fn make_turn<const M: u32, H: Host>(
     run: &mut Run<M>,
     rewind: &mut Rewind<M>,

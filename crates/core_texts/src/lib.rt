@@ -1,6 +1,6 @@
 //! Cores that tests write and show by characters.
 //!
-//! A character is that of the digit on cards: `0` to `9`, `|` for the record mark, `@` for the numerical blank, `}` for the group mark, and
+//! Each digit has its character on cards: `0` to `9`, `|` for the record mark, `@` for the numerical blank, `}` for the group mark, and
 //! `]`, `J` to `R`, `!`, `*` and `"` for these with a flag. A test that names another character or a place outside core, or binds a file that
 //! cannot be bound, has an error, and so fails.
 //!
@@ -14,7 +14,7 @@ use card_code::object_digit;
 use digit_core::{Core, Digit};
 use outside_io::Bound;
 
-/// What is wrong with a test that writes or shows core.
+/// The error of a test that writes or shows core.
 #[derive(Debug, Drop)]
 pub enum TextFault {
     /// The byte is no character of a digit.
@@ -36,7 +36,7 @@ pub fn digit_of_char(c: u8) -> Result<Digit, TextFault>
 
 /// Stores a text from `a` upwards.
 ///
-/// The error is a byte that is no character of a digit, or a place past the end of core; what stands before it is stored.
+/// The error is a byte that is no character of a digit, or a place past the end of core; the digits before it are stored.
 pub fn write<const M: u32>(core: &mut Core<M>, a: u32, text: &[u8]) -> Result<(), TextFault> {
     let size = core.size();
     let mut at = a;
@@ -50,7 +50,7 @@ pub fn write<const M: u32>(core: &mut Core<M>, a: u32, text: &[u8]) -> Result<()
     Ok(())
 }
 
-/// Whether a text stands from `a` upwards.
+/// Whether core holds a text from `a` upwards.
 ///
 /// The error is a byte that is no character of a digit, or a place past the end of core.
 pub fn shows<const M: u32>(core: &Core<M>, a: u32, text: &[u8]) -> Result<bool, TextFault> {
@@ -68,7 +68,7 @@ pub fn shows<const M: u32>(core: &Core<M>, a: u32, text: &[u8]) -> Result<bool, 
     Ok(true)
 }
 
-/// Whether the digit of a character stands at each place from `from` up to `to`, which is not one of them.
+/// Whether each place from `from` up to, but not including, `to` holds the digit of a character.
 ///
 /// The error is a byte that is no character of a digit, or a place past the end of core.
 pub fn all<const M: u32>(core: &Core<M>, from: u32, to: u32, c: u8) -> Result<bool, TextFault> {
@@ -85,7 +85,7 @@ pub fn all<const M: u32>(core: &Core<M>, from: u32, to: u32, c: u8) -> Result<bo
     Ok(true)
 }
 
-/// Turns a bit of the cell at `a` round, which makes its parity even.
+/// Inverts a bit of the cell at `a`, which makes the parity of a good cell even.
 ///
 /// The error is a place past the end of core.
 pub fn damage<const M: u32>(core: &mut Core<M>, a: u32) -> Result<(), TextFault> {
@@ -96,7 +96,7 @@ pub fn damage<const M: u32>(core: &mut Core<M>, a: u32) -> Result<(), TextFault>
     Ok(())
 }
 
-/// Goes on where a unit was bound.
+/// Ok if a unit was bound.
 ///
 /// The error is a unit that could not be bound.
 pub fn bound(answer: Bound) -> Result<(), TextFault> {

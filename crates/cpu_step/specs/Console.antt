@@ -13,11 +13,11 @@ use Rattle.cpu_step.specs.declared.machine.Mode.{Mode}
 use Rattle.cpu_step.specs.Checks.{part_in}
 use Rattle.cpu_step.specs.State.{State}
 
--- the twelve cells that stand at an address, where they all lie in core
+-- the twelve cells at an address, if they all lie in core
 abbrev pub cells_at : List ℕ → ℕ → Option (List ℕ)
 cells_at core a = if nat_le (a + 12) (length core) then Some (take 12 (drop a core)) else None
 
--- what is shown of core, registers, panel, arms and mode, and of what was read
+-- the console for core, registers, panel, arms and mode, and for the cards and lines that hopper and keyboard have read
 abbrev pub shown_by : List ℕ → Regs → Panel → List ℕ → Mode → Hopper → Lines → Console
 shown_by core regs panel arms mode hopper keyboard = record {
   regs = regs;
@@ -31,7 +31,7 @@ shown_by core regs panel arms mode hopper keyboard = record {
   bad_keys = lines_tally keyboard;
 }
 
--- what is shown of a machine
+-- the console of a machine
 abbrev pub shown_on : (m : ℕ) → Machine m → Console
 shown_on m machine = shown_by machine.core machine.regs machine.panel machine.arms machine.mode machine.hopper machine.keys
 

@@ -1,4 +1,4 @@
--- What the twelve cells of an instruction come to, in whatever core and at whatever address they stand.
+-- Decoded instructions: what the twelve cells of an instruction mean, in any core and at any address.
 use Rattle.std.specs.Prelude.{ℕ, ◌≡◌, ◌+◌, ◌*◌, ◌/◌, ◌%◌, ◌^◌, ◌<◌, ◌≤◌, ⊤, true, List, length, slice_index, Result, Ok, Err}
 use Rattle.digit_core.specs.{six, size}
 use Rattle.addr_indirect.specs.declared.Instr.{Instr}
@@ -21,11 +21,11 @@ use Rattle.cpu_step.specs.Rows.{instruction_row, takes_odd}
 use Rattle.cpu_step.specs.Act.{operands}
 use Rattle.branch_ops.specs.Fields.{fields_used, fields_operands, fields_at, HoldOperands}
 
--- the instruction that twelve cells are at ir, ten in one word and two in another
+-- the instruction of twelve cells at ir, ten of them in one word and two in another
 abbrev pub instr_at : ℕ → ℕ → ℕ → Instr
 instr_at ir low high = record { at = ir; cells = digits_in low high }
 
--- they stand at ir in a core of size m
+-- these twelve cells are at ir in a core of size m
 pub record AreTwelve (m : ℕ) (core : List ℕ) (ir low high : ℕ) : Type 0 where
   pub long : length core ≡ size m
   pub even : ir % 2 ≡ 0
@@ -33,23 +33,23 @@ pub record AreTwelve (m : ℕ) (core : List ℕ) (ir low high : ℕ) : Type 0 wh
   pub low_cells : (j : ℕ) → j < 10 → six low j ≡ slice_index core (ir + j)
   pub high_cells : (j : ℕ) → j < 2 → six high j ≡ slice_index core (ir + 10 + j)
 
--- fields that come to operands in every core of n cells, wherever their instruction stands
+-- fields that give operands without a stop in every core of n cells, at any address of their instruction
 pub record AreSettled (n : ℕ) (f : Fields) : Type 0 where
   pub works : (core : List ℕ) (ir : ℕ) → length core ≡ n → fields_operands f core ir ≡ Ok (fields_at ir f)
   pub p_below : f.p < n
   pub q_below : (ir : ℕ) → ir + 12 ≤ n → (fields_at ir f).q < n
 
--- what an instruction is that has this row, and fields that tell what it may store
+-- a found instruction with this row, these operands and these cells that it may store
 abbrev pub found_with : Row → Uses → MayStore → Found
 found_with row uses stores = record { row = row; uses = uses; stores = stores }
 
--- a row, and its fields
+-- the instruction has this row and these fields
 pub record IsRow (i : Instr) (row : Row) (f : Fields) : Type 0 where
   pub uses : Uses
   pub row_is : instruction_row i ≡ Ok (found_with row uses f.stores)
   pub fields_are : f ≡ fields_used uses f.stores i
 
--- the row and the fields of an instruction, or the stop where it has no row
+-- the row and the fields of an instruction, or the stop if it has no row
 abbrev pub Decodes : Instr → Result (Row × Fields) Stop → Type 0
 Decodes i (Ok found) = IsRow i found.0 found.1
 Decodes i (Err why) = instruction_row i ≡ Err why
@@ -62,7 +62,7 @@ pub record IsB (i : Instr) (n p : ℕ) : Type 0 where
   pub settled : AreSettled n f
   pub p_is : p ≡ f.p
 
--- what an instruction comes to by its digits, in a core of n cells
+-- the decoded instruction agrees with the instruction's digits, in a core of n cells
 abbrev pub IsKnown : Instr → ℕ → Known → Type 0
 IsKnown i n (known.B p) = IsB i n p
 IsKnown i n (known.Row row f) = IsRow i row f × AreSettled n f
@@ -70,7 +70,7 @@ IsKnown i n (known.Branch op f code) = IsRow i (row.Branch op code) f × AreSett
 IsKnown i n (known.Chained row f) = IsRow i row f
 IsKnown i n known.Nothing = ⊤
 
--- the operands that what is found uses
+-- the operands that a found instruction uses
 abbrev pub uses_in : Result Found Stop → Uses
 uses_in (Ok f) = f.uses
 uses_in (Err why) = Neither
@@ -78,7 +78,7 @@ uses_in (Err why) = Neither
 abbrev pub uses_at : ℕ → ℕ → ℕ → Uses
 uses_at ir low high = uses_in (instruction_row (instr_at ir low high))
 
--- the instruction at ir is of this row, over these operands, and may store so
+-- the instruction at ir has this row and these operands, and may store these cells
 pub record ComesToRow (core : List ℕ) (ir low high : ℕ) (row : Row) (stores : MayStore) (o : Operands) : Type 0 where
   pub fetched : fetch core ir ≡ Ok (instr_at ir low high)
   pub row_is : instruction_row (instr_at ir low high) ≡ Ok (found_with row (uses_at ir low high) stores)
@@ -97,12 +97,12 @@ abbrev pub code_in : Result Found Stop → ℕ
 code_in (Ok f) = code_of_row f.row
 code_in (Err why) = 0
 
--- it is B, to p
+-- the instruction at ir is B, and goes to p
 abbrev pub ComesToB : List ℕ → ℕ → ℕ → ℕ → ℕ → Type 0
 ComesToB core ir low high p =
     ComesToRow core ir low high (row.Branch B (code_in (instruction_row (instr_at ir low high)))) Nothing (record { p = p; q = 0 })
 
--- it is of this row, over fields whose operands aren't worked out
+-- the instruction at ir has this row and these fields, whose operands aren't worked out
 pub record ComesToChained (core : List ℕ) (ir low high : ℕ) (row : Row) (f : Fields) : Type 0 where
   pub fetched : fetch core ir ≡ Ok (instr_at ir low high)
   pub row_is : instruction_row (instr_at ir low high) ≡ Ok (found_with row (uses_at ir low high) f.stores)
@@ -110,7 +110,7 @@ pub record ComesToChained (core : List ℕ) (ir low high : ℕ) (row : Row) (f :
   pub inside : ir + 12 ≤ length core
   pub odd : takes_odd row ≡ true → f.odd ≡ true
 
--- what the instruction at ir, which these two words hold, comes to; of any other nothing is said
+-- the instruction at ir, which these two words hold, is decoded as k; if k is Nothing, this says nothing
 pub record ComesTo (core : List ℕ) (ir low high : ℕ) (k : Known) : Type 0 where
   pub to_b : (p : ℕ) → k ≡ known.B p → ComesToB core ir low high p
   pub to_row : (row : Row) (f : Fields) → k ≡ known.Row row f
@@ -120,16 +120,16 @@ pub record ComesTo (core : List ℕ) (ir low high : ℕ) (k : Known) : Type 0 wh
   pub to_chained : (row : Row) (f : Fields) → k ≡ known.Chained row f
       → ComesToChained core ir low high row f
 
--- a fact on the two words alone: so nothing that is stored in core makes it false
+-- a fact on the two words alone, in any core: so no store makes it false
 abbrev pub AreKnown : ℕ → ℕ → ℕ → Known → Type 0
 AreKnown m low high k = (core : List ℕ) (ir : ℕ) → AreTwelve m core ir low high → ComesTo core ir low high k
 
--- the two cells behind the ten from cell number t of a word on
+-- the last two cells of an instruction, which begin at cell number t of a word
 abbrev pub two_from : ℕ → ℕ → ℕ
 two_from high t = high / 2 ^ (6 * t)
 
--- an instruction may stand at ir in a core of size m; its cells are in word number i, where one mask has all their bits, and in the next
--- word, where the other has
+-- an instruction may be at ir in a core of size m; its cells are in word number i, under the low mask, and in the next word,
+-- under the high mask
 pub record IsPlace (m ir i low_mask high_mask : ℕ) : Type 0 where
   pub even : ir % 2 ≡ 0
   pub inside : ir + 12 ≤ size m
@@ -137,7 +137,7 @@ pub record IsPlace (m ir i low_mask high_mask : ℕ) : Type 0 where
   pub low_named : (j : ℕ) → ir % 10 ≤ j → j < 10 → six low_mask j ≡ 63
   pub high_named : (j : ℕ) → j < ir % 10 + 2 → six high_mask j ≡ 63
 
--- what the instruction at ir comes to, by some two words
+-- the instruction at ir is decoded as k, by some two words
 pub record Comes (core : List ℕ) (ir : ℕ) (k : Known) : Type 0 where
   pub low : ℕ
   pub high : ℕ

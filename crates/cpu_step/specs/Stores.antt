@@ -16,22 +16,22 @@ use Rattle.branch_ops.specs.Operands.{operands}
 use Rattle.cpu_step.specs.State.{State}
 use Rattle.cpu_step.specs.Step.{step}
 
--- a flag stands between a and p
+-- a flag is between a and p
 pub record HasFlagBetween (core : List ℕ) (a p : ℕ) : Type 0 where
   pub at : ℕ
   pub above : a < at
   pub below : at < p
   pub flag : has_flag (slice_index core at) ≡ true
 
--- a record mark stands between p, where it may stand too, and a
+-- a record mark is at p, or between p and a
 pub record HasMarkBetween (core : List ℕ) (p a : ℕ) : Type 0 where
   pub at : ℕ
   pub above : p ≤ at
   pub below : at < a
   pub mark : has_mark (slice_index core at) ≡ true
 
--- the cell at a is outside of what may be stored, core being `new` afterwards: a field goes down from its units to the first flag that
--- stands there then, the flag of the units themselves being no end; a record goes up to the first record mark that stands there then
+-- the cell at a may not be stored; core is `new` afterwards. A field goes down from its units to the first flag in `new`, except
+-- a flag on the units themselves; a record goes up to the first record mark in `new`
 abbrev pub IsOutside : Stores → List ℕ → ℕ → Type 0
 IsOutside Nothing new a = ⊤
 IsOutside (Cell p) new a = a ≢ p
@@ -43,16 +43,16 @@ IsOutside Anywhere new a = ⊥
 abbrev pub KeepsOutside : Stores → List ℕ → List ℕ → Type 0
 KeepsOutside stores core new = (a : ℕ) → IsOutside stores new a → slice_index new a ≡ slice_index core a
 
--- core has as many cells as before, and those outside of what may be stored are as they were
+-- core has as many cells as before, and the cells that may not be stored are as they were
 pub record StoresWithin (stores : Stores) (core new : List ℕ) : Type 0 where
   pub long : length new ≡ length core
   pub outside : KeepsOutside stores core new
 
--- so does a step at every state with this core and this address of the instruction
+-- a step from any state with this core and this IR stores only these cells
 abbrev pub StepStores : List ℕ → ℕ → Stores → Type 0
 StepStores core ir stores = (s : State) → s.core ≡ core → s.regs.ir ≡ ir → StoresWithin stores s.core (step s).core
 
--- the address in what may be stored is one of n
+-- the address of the cells that may be stored is below n
 abbrev pub StoresBelow : Stores → ℕ → Type 0
 StoresBelow Nothing n = ⊤
 StoresBelow (Cell p) n = p < n
@@ -60,15 +60,15 @@ StoresBelow (Down p) n = p < n
 StoresBelow (Up p) n = p < n
 StoresBelow Anywhere n = ⊤
 
--- all that a machine shows is as it was
+-- the machine is as it was, except its decode cache
 abbrev pub ShowsTheSame : (m : ℕ) → Machine m → Machine m → Type 0
 ShowsTheSame m old new = new ≡ record old { memo = new.memo }
 
--- a field whose units are below p; there is none below 00000
+-- the field whose units are at p - 1; no cell if p is 00000
 abbrev pub down_below : ℕ → Stores
 down_below p = if p == 0 then Nothing else Down (p - 1)
 
--- what an instruction may store over its operands, by its column; of what is left to the device nothing is known
+-- the cells that an instruction may store over its operands, by its column; any cells if the column leaves them to the device
 abbrev pub stores_by : MayStore → Operands → Stores
 stores_by column.Nothing o = Nothing
 stores_by column.Cell o = Cell o.p
@@ -79,15 +79,15 @@ stores_by column.Up o = Up o.p
 stores_by column.Anywhere o = Anywhere
 stores_by column.ByDevice o = Anywhere
 
--- what a reading stops stores nothing
+-- the cells that f gives; no cell if the reading stops
 abbrev pub or_nothing : {A : Type 0} → Result A Stop → (A → Stores) → Stores
 or_nothing (Ok x) f = f x
 or_nothing (Err why) f = Nothing
 
--- what the instruction at ir may store, once it's fetched, over its operands
+-- the cells that a fetched instruction at ir may store
 abbrev pub fetched_stores : Instr → List ℕ → ℕ → Stores
 fetched_stores i core ir = or_nothing (instruction_row i) (λ f. or_nothing (operands f.uses core ir) (λ o. stores_by f.stores o))
 
--- what the instruction at ir may store
+-- the cells that the instruction at ir may store
 abbrev pub stores_at : List ℕ → ℕ → Stores
 stores_at core ir = or_nothing (fetch core ir) (λ i. fetched_stores i core ir)

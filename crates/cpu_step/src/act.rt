@@ -1,4 +1,4 @@
-// What the rows do.
+// The actions of the rows.
 ghost use Rattle.std.specs.Prelude.{◌≡◌, ◌<◌, ◌≤◌, ◌+◌, ◌%◌, true};
 ghost use Rattle.digit_core.specs.Size.{size};
 
@@ -18,7 +18,7 @@ impl<const M: u32> Machine<M> {
     ghost use Rattle.cpu_step.specs.Rows.{takes_odd, unit_takes_odd, console_takes_odd, cards_take_odd};
     ghost use Rattle.cpu_step.specs.Machine.{Acts, BranchActs, RowActs, UnitActs};
 
-    // Works the operands that these fields hold out, and does the action of this row.
+    // Works out the operands that these fields hold, and does the action of this row.
     #[inline(always)]
     pub(crate) fn act<H: Host>(&mut self, row: Row, fields: Fields, host: &mut H) -> Outcome
         requires inside { self.old.regs.ir + 12 ≤ size M }
@@ -56,7 +56,7 @@ impl<const M: u32> Machine<M> {
         }
     }
 
-    // Does what a branch does over its operands.
+    // Does the action of a branch over its operands.
     #[inline(always)]
     pub(crate) fn branch_by(&mut self, op: BranchOp, o: BranchOperands) -> Outcome
         requires p { o.p < size M }

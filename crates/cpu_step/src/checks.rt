@@ -14,14 +14,15 @@ use addr_indirect::{
 use branch_ops::{Operands, Uses};
 use digit_core::Core;
 
-/// Which part of an instruction a check stop is about, by core as it stands at the stop.
+/// Which part of an instruction a check stop is about, by core at the stop.
 ///
-/// An instruction is fetched, and its operands are worked out, before it changes anything; so core still has what it stopped at. Only where
-/// an action has stored over its own instruction, or over a field of its operands' chains, before it stopped, does core tell something else.
+/// The machine fetches an instruction and works out its operands before the instruction changes anything. So core still has the
+/// cells at which it stopped, unless an action has stored over its own instruction, or over a field of its operands' chains,
+/// before it stopped.
 /// Source: this project's own, over the CPU manual's instruction format and indirect addressing.
 #[derive(Clone, Copy, Debug, PartialEq, Eq)]
 pub enum CheckPart {
-    /// The instruction itself: its first cell that can't be read; its address where that is odd, or where no operation has its digits.
+    /// The instruction itself: its first cell that can't be read, or its address if that is odd or no operation has these digits.
     Instruction {
         /// The cell's address.
         cell: u32,
@@ -36,14 +37,14 @@ pub enum CheckPart {
         /// The units position of the field at which Q's chain ended.
         units: u32,
     },
-    /// What the operation does over its operands.
+    /// The action of the operation over its operands.
     Action {
-        /// P's address, 0 where the operation doesn't use it.
+        /// P's address, 0 if the operation doesn't use P.
         p: u32,
-        /// Q's address, where the operation uses it; of an immediate Q the instruction's own Q11.
+        /// Q's address, if the operation uses Q; for an immediate Q the address of the instruction's own Q11.
         q: Option<u32>,
-        /// The cell that the check is about, where that can be told: the bad cell of stops 4 and 5; of stop 3 the first cell over 9 of the two
-        /// fields of a sum or a comparison, or of the disk's control field.
+        /// The cell that the check is about, if it can be found: for stops 4 and 5 the bad cell; for stop 3 the first cell over 9
+        /// in the two fields of a sum or a comparison, or in the disk's control field.
         cell: Option<u32>,
     },
 }
@@ -67,7 +68,7 @@ pub(crate) fn check_part<const M: u32>(core: &Core<M>, why: Stop, ir: u32) -> Op
     }
 }
 
-// The part that a stop is about which isn't by a check switch.
+// The part that a stop is about, if the stop isn't by a check switch.
 fn part_of<const M: u32>(core: &Core<M>, why: Stop, ir: u32) -> CheckPart
     ensures { result ≡ part_of why (fetch core.now ir) core.now ir }
 {
@@ -118,7 +119,7 @@ fn fetched_part<const M: u32>(core: &Core<M>, why: Stop, ir: u32, i: &Instr) -> 
     }
 }
 
-// The part of an instruction that was fetched and is this one.
+// The part of an instruction that was fetched and found.
 fn worked_part<const M: u32>(core: &Core<M>, why: Stop, ir: u32, found: Found) -> CheckPart
     requires { ir + 12 ≤ size M }
     ensures { result ≡ worked_part why found core.now ir }
@@ -134,7 +135,7 @@ fn worked_part<const M: u32>(core: &Core<M>, why: Stop, ir: u32, found: Found) -
     }
 }
 
-// The operands of the instruction at `ir`, or the part of it at which they stop.
+// The operands of the instruction at `ir`, or the part at which they stop.
 fn operands_or_part<const M: u32>(
     core: &Core<M>,
     ir: u32,
@@ -154,7 +155,7 @@ fn operands_or_part<const M: u32>(
     }
 }
 
-// P's address, 0 where it isn't used, or the field at which its chain ends.
+// P's address, 0 if P isn't used; or the field at which P's chain ends.
 fn p_or_part<const M: u32>(core: &Core<M>, ir: u32, uses: Uses) -> Result<u32, CheckPart>
     requires { ir + 12 ≤ size M }
     ensures is { result ≡ p_or_part uses core.now ir }
@@ -170,7 +171,7 @@ fn p_or_part<const M: u32>(core: &Core<M>, ir: u32, uses: Uses) -> Result<u32, C
     }
 }
 
-// Q's, likewise; of an immediate Q its own address.
+// Q's address, 0 if Q isn't used, Q11 for an immediate Q; or the field at which Q's chain ends.
 fn q_or_part<const M: u32>(core: &Core<M>, ir: u32, uses: Uses) -> Result<u32, CheckPart>
     requires { ir + 12 ≤ size M }
     ensures is { result ≡ q_or_part uses core.now ir }
@@ -194,7 +195,7 @@ fn wants_odd(uses: Uses) -> bool
     matches!(uses, Uses::OddBoth | Uses::OddFirst)
 }
 
-// Q's address, where it's used.
+// Q's address, if Q is used.
 fn q_used(uses: Uses, q: u32) -> Option<u32>
     ensures { result ≡ q_used uses q }
 {
@@ -204,7 +205,7 @@ fn q_used(uses: Uses, q: u32) -> Option<u32>
     }
 }
 
-// The field at which P's chain ends, of the instruction at `ir`.
+// The field at which P's chain ends, for the instruction at `ir`.
 fn p_part<const M: u32>(core: &Core<M>, ir: u32) -> CheckPart
     requires { ir + 12 ≤ size M }
     ensures { result ≡ p_part core.now ir }
@@ -215,7 +216,7 @@ fn p_part<const M: u32>(core: &Core<M>, ir: u32) -> CheckPart
     }
 }
 
-// The field at which Q's chain ends.
+// The field at which Q's chain ends, for the instruction at `ir`.
 fn q_part<const M: u32>(core: &Core<M>, ir: u32) -> CheckPart
     requires { ir + 12 ≤ size M }
     ensures { result ≡ q_part core.now ir }
@@ -226,7 +227,7 @@ fn q_part<const M: u32>(core: &Core<M>, ir: u32) -> CheckPart
     }
 }
 
-// The units position of the last field of the chain from `at`: of one that never ends, some field of it.
+// The units position of the last field of the chain from `at`; if the chain never ends, of some field in it.
 fn chain_end<const M: u32>(core: &Core<M>, at: u32) -> u32
     requires field { 4 ≤ at }
     requires in_core { at < size M }
@@ -282,7 +283,7 @@ pub(crate) fn five_digits<const M: u32>(core: &Core<M>, u: u32) -> Result<u32, S
     Ok(u32::from(a.value) + 10 * (u32::from(b.value) + 10 * above))
 }
 
-// The cell that a check of an action is about, where that can be told.
+// The cell that a check of an action is about, if it can be found.
 fn action_cell<const M: u32>(core: &Core<M>, why: Stop, row: Row, o: Operands) -> Option<u32>
     requires p { o.p < size M }
     requires q { o.q < size M }
@@ -295,7 +296,7 @@ fn action_cell<const M: u32>(core: &Core<M>, why: Stop, row: Row, o: Operands) -
     }
 }
 
-// The cell over 9 at which a row stops, where that can be told.
+// The cell over 9 at which a row stops, if it can be found.
 fn cell_over_nine<const M: u32>(core: &Core<M>, row: Row, o: Operands) -> Option<u32>
     requires p { o.p < size M }
     requires q { o.q < size M }
@@ -320,7 +321,7 @@ fn over_nine_in_step<const M: u32>(core: &Core<M>, p: u32, q: u32) -> Option<u32
     nearer(p, q, of_p, of_q)
 }
 
-// Of a cell in the field at `p` and one in the field at `q`, the one that stands nearer to its units.
+// The nearer to its units of two cells, one in the field at `p` and one in the field at `q`; P's cell if both are equally near.
 fn nearer(p: u32, q: u32, of_p: Option<u32>, of_q: Option<u32>) -> Option<u32>
     ensures { result ≡ nearer p q of_p of_q }
 {

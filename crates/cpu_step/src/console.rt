@@ -16,22 +16,22 @@ use indicators::Panel;
 pub struct Console {
     /// IR, the address of the instruction that comes next or that stopped the machine, and IR-2.
     pub regs: Regs,
-    /// The twelve cells that stand at IR, each as a number from 0 to 63, `32C + 16F + V`: none where they don't all lie in core.
+    /// The twelve cells at IR, each as a number from 0 to 63, `32C + 16F + V`; None if they don't all lie in core.
     pub cells: Option<[u8; 12]>,
     /// The switches and indicators.
     pub panel: Panel,
-    /// The cylinder where the arm of each disk drive stands.
+    /// The cylinder at which the arm of each disk drive is.
     pub arms: [u32; DRIVES],
-    /// Which part of its instruction a check is about, where one stopped the machine: none for stops 10 and 11, which come behind a whole
-    /// instruction.
+    /// Which part of its instruction a check is about, if a check stopped the machine. None for stops 10 and 11, which come after
+    /// a whole instruction.
     pub part: Option<CheckPart>,
     /// How many cards were read.
     pub cards: CardsRead,
-    /// The bad characters of these.
+    /// The bad characters of these cards.
     pub bad_cards: Tally,
     /// How many lines of the keyboard were read.
     pub lines: u64,
-    /// The bad characters of these.
+    /// The bad characters of these lines.
     pub bad_keys: Tally,
 }
 
@@ -58,7 +58,7 @@ impl<const M: u32> Machine<M> {
         }
     }
 
-    // Which part of its instruction a check is about, where one stopped the machine.
+    // Which part of its instruction a check is about, if a check stopped the machine.
     fn check_part(&self) -> Option<CheckPart>
         ensures { result ≡ part_in self.now.mode self.now.core }
     {
@@ -68,7 +68,7 @@ impl<const M: u32> Machine<M> {
         }
     }
 
-    // The twelve cells that stand at an address, where they all lie in core.
+    // The twelve cells at an address, if they all lie in core.
     fn cells_at(&self, ir: u32) -> Option<[u8; 12]>
         ensures { result ≡ cells_at self.now.core ir }
     {

@@ -12,7 +12,7 @@ use indicators::{EVEN_PARITY, ODD_PARITY, Panel};
 use outside_io::Unit;
 use typewriter::TypeIo;
 
-// On with these registers, where nothing stopped within core.
+// On with these registers, if nothing stopped within core.
 pub(crate) fn core_outcome(answer: Result<(), Stop>, regs: Regs) -> Outcome
     ensures { result ≡ core_outcome regs answer }
 {
@@ -22,7 +22,7 @@ pub(crate) fn core_outcome(answer: Result<(), Stop>, regs: Regs) -> Outcome
     }
 }
 
-// On where a branch goes, IR-2 being as it left it.
+// On at the address that a branch gives, with IR-2 as the branch left it.
 pub(crate) fn branch_outcome(answer: Result<u32, Stop>, regs: Regs) -> Outcome
     ensures { result ≡ branch_outcome regs answer }
 {
@@ -34,7 +34,7 @@ pub(crate) fn branch_outcome(answer: Result<u32, Stop>, regs: Regs) -> Outcome
     }
 }
 
-// On with these registers, where the card was read or punched.
+// On with these registers, if the card was read or punched.
 pub(crate) fn card_outcome(answer: CardIo, regs: Regs) -> Outcome
     ensures { result ≡ card_outcome regs answer }
 {
@@ -63,7 +63,7 @@ pub(crate) fn typewriter_outcome(answer: TypeIo, regs: Regs) -> Outcome
     }
 }
 
-// On with these registers, where the disk did its work.
+// On with these registers, if the disk did its work.
 pub(crate) fn disk_outcome(answer: DiskIo, regs: Regs) -> Outcome
     ensures { result ≡ disk_outcome regs answer }
 {
@@ -74,7 +74,7 @@ pub(crate) fn disk_outcome(answer: DiskIo, regs: Regs) -> Outcome
     }
 }
 
-// The stop by a check switch that stands at STOP, behind a completed action.
+// The stop by a check switch that is at STOP, after a completed action.
 pub(crate) fn check_stop(panel: &Panel) -> Option<Stop>
     ensures { result ≡ check_stop panel.now }
 {

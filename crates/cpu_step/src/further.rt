@@ -12,10 +12,10 @@ use branch_ops::{FieldKind, Fields, Operands};
 use digit_core::Core;
 use std::alloc::{AllocError, Global};
 
-// A further field, and what it comes to. Its five cells are kept as the two words of core that hold them, as those of an instruction are.
+// A further field and its number. The entry keeps the two words of core that hold its five cells, as in the decode cache.
 #[derive(Clone, Copy)]
 struct FurtherField<const M: u32> {
-    // The position of its units, 0 where nothing is known: no field has its units there.
+    // The position of its units; 0 in an empty entry, since no field has its units there.
     units: u32,
     // The number of the lower word.
     word: u32,
@@ -32,7 +32,7 @@ struct FurtherField<const M: u32> {
 }
 
 impl<const M: u32> FurtherField<M> {
-    // An entry that knows nothing.
+    // An empty entry.
     fn none() -> Self
         requires { IsSize M }
     {
@@ -48,7 +48,7 @@ impl<const M: u32> FurtherField<M> {
         }
     }
 
-    // Whether the field whose units are at `u` is the one that the entry knows: where the answer is yes, it comes to what the entry says.
+    // Whether the entry has this units position and the field's cells in core: if so, its number and its flag are the field's.
     #[inline(always)]
     fn is_at(&self, core: &Core<M>, u: u32) -> bool
         requires { 4 ≤ u }
@@ -60,7 +60,8 @@ impl<const M: u32> FurtherField<M> {
             && core.word(self.word + 1) & self.high_mask == self.high
     }
 
-    // Reads the field whose units are at `u`, to be kept. A field that stops a chain isn't kept, nor one that ends with core.
+    // Reads the field whose units are at `u`, to be kept. Fields that stop a chain aren't kept, nor fields whose units are in
+    // core's last six cells.
     #[cold]
     #[inline(never)]
     fn read(core: &Core<M>, u: u32) -> Option<Self>
@@ -89,7 +90,7 @@ impl<const M: u32> FurtherField<M> {
         }
     }
 
-    // The field whose units are at `u`, and which comes to this, with its words.
+    // The entry of the field whose units are at `u`, with this number and this flag.
     fn of(core: &Core<M>, u: u32, number: u32, flagged: bool) -> Self
         requires field { 4 ≤ u }
         requires in_core { u + 6 < size M }
@@ -116,19 +117,19 @@ impl<const M: u32> FurtherField<M> {
     }
 }
 
-// A chain that was followed from this position, and what it came to.
+// A chain that was followed from the position `at`, and the address that it led to.
 #[derive(Clone, Copy)]
 struct Followed {
     at: u32,
     to: u32,
 }
 
-// How many further fields of a chain are kept; a longer one is followed each time.
+// How many further fields of a chain are kept; a longer chain is followed each time.
 const MOST_FIELDS: u32 = 8;
 
-// Further fields that were read before, by the positions of their units. An entry says nothing of core but by the five cells themselves,
-// so it never has to be told of a store. They stand on the heap, as what instructions came to. A chain's fields are kept once it came to the same twice, so one that is changed each time costs
-// little more than to follow it.
+// Further fields that were read before, by the positions of their units. An entry depends on its five cells alone, and each
+// look-up compares them with core, so a store need not change it. The entries are on the heap, as in the decode cache. A chain's
+// fields are kept after the chain has led to one address twice, so a chain that changes each time costs little more.
 #[derive(Drop)]
 pub(crate) struct FurtherFields<const M: u32> {
     entries: Vec<FurtherField<M>>,
@@ -138,7 +139,7 @@ pub(crate) struct FurtherFields<const M: u32> {
 }
 
 impl<const M: u32> FurtherFields<M> {
-    // Fields of which nothing is known. The error is want of memory.
+    // No fields yet. The error is want of memory.
     pub(crate) fn new(alloc: Global) -> Result<Self, AllocError>
         requires { IsSize M }
     {
@@ -147,7 +148,7 @@ impl<const M: u32> FurtherFields<M> {
         Ok(FurtherFields { entries, followed })
     }
 
-    // Works out the operands of the instruction at `ir` as `Fields::operands` does, by what is known of further fields.
+    // Works out the operands of the instruction at `ir` as `Fields::operands` does, with the help of the kept further fields.
     #[inline(always)]
     pub(crate) fn operands(
         &mut self,
@@ -170,7 +171,7 @@ impl<const M: u32> FurtherFields<M> {
         }
     }
 
-    // The operand that a field of this kind with the number `v` holds, of the instruction at `ir`.
+    // The operand that a field of this kind with the number `v` holds, for the instruction at `ir`.
     #[inline(always)]
     fn operand(&mut self, core: &Core<M>, ir: u32, kind: FieldKind, v: u32) -> Result<u32, Stop>
         requires { ir + 12 ≤ size M }
@@ -190,8 +191,8 @@ impl<const M: u32> FurtherFields<M> {
         }
     }
 
-    // The address that an operand comes to whose first field leads to a further one, whose units are at `at`. It is no call of its own: what
-    // it answers would have to be put into memory first, to be taken apart again.
+    // The operand's address, if its chain goes on with the further field at `at`. It is inlined: the answer of a call would first
+    // be put into memory, and then taken apart again.
     #[inline(always)]
     fn further(&mut self, core: &Core<M>, at: u32) -> Result<u32, Stop>
         requires field { 4 ≤ at }
@@ -205,7 +206,7 @@ impl<const M: u32> FurtherFields<M> {
         }
     }
 
-    // The same where each of the chain's fields is known.
+    // The address that the chain from `at` leads to, if all of its fields are kept.
     #[inline(always)]
     fn known(&self, core: &Core<M>, at: u32) -> Option<u32>
         requires field { 4 ≤ at }
@@ -227,7 +228,7 @@ impl<const M: u32> FurtherFields<M> {
         None
     }
 
-    // The same by all of the chain's fields, as they stand in core.
+    // The address that the chain from `at` leads to, by its fields in core.
     #[inline(never)]
     fn follow(&mut self, core: &Core<M>, at: u32) -> Result<u32, Stop>
         requires field { 4 ≤ at }
@@ -245,7 +246,7 @@ impl<const M: u32> FurtherFields<M> {
         Ok(to)
     }
 
-    // Keeps the chain's fields, up to the first that can't be kept. The chain has to come to the same twice before they are kept again.
+    // Keeps the chain's fields, up to the first that can't be kept. Only a chain that leads to one address twice is kept again.
     #[cold]
     #[inline(never)]
     fn learn(&mut self, core: &Core<M>, at: u32)

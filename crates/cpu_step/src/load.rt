@@ -15,8 +15,8 @@ impl<const M: u32> Machine<M> {
     /// The Load key: turns indicators off, sets IR to 00000, reads a card numerically into 00000 to 00079 and lets the machine run.
     ///
     /// It turns off 06, 07, 09, 11, 12, 14, 16, 17, 36, 37 and 38. IR-2 and the switches stay. `On`: the card is taken. `Empty`, `Jam`:
-    /// there was no card, or a line of over 80 bytes; core is as before. `Failed` only where the host's count of faults rose; core is
-    /// as before. There is no other answer.
+    /// there was no card, or a line of over 80 bytes; core is as before. `Failed` only if the host's count of faults rose; core
+    /// is as before. There is no other answer.
     /// Source: CPU manual, Load key; what it turns off is this project's own.
     pub fn load_key<H: Host>(&mut self, host: &mut H) -> Turned
         ensures { LoadsKey M self.old self.new (H.seen host.old) (H.seen host.new) result }

@@ -15,7 +15,7 @@ use indicators::Panel;
 use outside_io::Unit;
 use std::alloc::{AllocError, Global};
 
-/// How the machine stands.
+/// The mode of the machine: it runs, or why it doesn't.
 ///
 /// Source: this project's own, over the CPU manual's console lamps.
 #[derive(Clone, Copy, Debug, PartialEq, Eq)]
@@ -75,8 +75,8 @@ pub enum Turned {
     Failed,
 }
 
-// How an instruction ends: on with these registers, in a halt with them, in a stop, at a reader without a card, at a keyboard without a
-// line, at a jam, or by a fault of the host.
+// How an instruction ends: on with these registers, in a halt with them, in a stop, without a card to be read, without a line of
+// the keyboard, at a jam, or by a fault of the host.
 #[derive(Clone, Copy)]
 pub(crate) enum Outcome {
     Goes { regs: Regs },
@@ -100,15 +100,15 @@ pub struct Machine<const M: u32> {
     pub regs: Regs,
     /// The switches and indicators.
     pub panel: Panel,
-    /// The cylinder where the arm of each disk drive stands.
+    /// The cylinder at which the arm of each disk drive is.
     pub arms: [u32; DRIVES],
     /// The cards that are still to be read.
     pub hopper: Hopper,
     /// The lines of the keyboard that are still to be read.
     pub keys: Lines,
-    /// How the machine stands.
+    /// The mode of the machine.
     pub mode: Mode,
-    // What instructions came to before; no part of what the machine shows.
+    // The decode cache; it is not part of what the machine shows.
     pub(crate) memo: Memo<M>,
     ghost keys_are: { unit_of keys ≡ units.Keys },
 }

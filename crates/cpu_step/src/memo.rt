@@ -1,4 +1,4 @@
-// What instructions came to before.
+// The decode cache: instructions that were decoded before.
 ghost use Rattle.std.specs.Prelude.{ℕ, ◌≡◌, ◌+◌, ◌≤◌, ◌<◌, ◌%◌, ◌^◌, length, IfOk, false, true};
 ghost use Rattle.digit_core.specs.Size.{IsSize, size};
 ghost use Rattle.digit_core.specs.Packed.{six, ten_across};
@@ -13,39 +13,39 @@ use digit_core::{Core, ten_across};
 use instruction_table::BranchOp;
 use std::alloc::{AllocError, Global};
 
-// What twelve cells come to.
+// A decoded instruction, by its twelve cells.
 #[derive(Clone, Copy)]
 pub(crate) enum Known {
-    // B, to P.
+    // B, which goes to P.
     B {
         p: u32,
     },
-    // Another row that is no branch, and its fields.
+    // A row that is not a branch, and its fields.
     Row {
         row: Row,
         fields: Fields,
     },
-    // Another branch, its fields, and the indicator that Q8 Q9 name.
+    // A branch other than B, its fields, and the indicator that Q8 Q9 name.
     Branch {
         op: BranchOp,
         fields: Fields,
         code: u8,
     },
-    // A row at whose fields a chain begins. It may be that of B.
+    // A row, which may be a branch, with a chain at one of its fields.
     Chained {
         row: Row,
         fields: Fields,
     },
-    // Nothing that is kept: there is a bad cell, no row, or an operand that won't do.
+    // No decoded instruction: a cell is bad, no row has these digits, or an operand is invalid.
     Nothing,
 }
 
-// Twelve cells at their address, and what they come to. They are kept as the two words of core that hold them, under masks that leave out
-// the words' other cells: so a look at them needs no division that finds their words, and no shift that cuts them out.
+// A decoded instruction with its address and its twelve cells. The entry keeps the two words of core that hold the cells, and
+// masks that leave out the words' other cells. So a look-up needs no division to find the words, and no shift to cut out cells.
 #[derive(Clone, Copy)]
 struct KnownEntry<const M: u32> {
     ir: u32,
-    // The number of the lower word. It is narrow, so that the compiler sees that one more fits into 32 bits, and makes no sum of it.
+    // The number of the lower word. It has 16 bits, so the compiler sees that `word + 1` fits into 32 bits, and makes no sum.
     word: u16,
     low_mask: u64,
     low: u64,
@@ -59,7 +59,7 @@ struct KnownEntry<const M: u32> {
 impl<const M: u32> KnownEntry<M> {
     ghost use Rattle.cpu_step.specs.Known.{Comes};
 
-    // An entry that knows nothing: no instruction has twelve cells that are 0.
+    // An empty entry: its cells are 0, and no good cell is 0.
     fn none() -> Self
         requires { IsSize M }
         ensures { result.known ≡ Known.Nothing }
@@ -75,7 +75,7 @@ impl<const M: u32> KnownEntry<M> {
         }
     }
 
-    // Whether the instruction at `ir` is the one that the entry knows: where the answer is yes, it comes to what the entry says.
+    // Whether the entry has this address and the cells at `ir`: if so, `known` is the decoded instruction.
     #[inline(always)]
     fn is_at(&self, core: &Core<M>, ir: u32) -> bool
         ensures { result ≡ true → Comes core.now ir self.now.known }
@@ -86,7 +86,7 @@ impl<const M: u32> KnownEntry<M> {
             && core.word(self.word as u32 + 1) & self.high_mask == self.high
     }
 
-    // Decodes the instruction at `ir` and keeps it. What is at an odd address, or not wholly in core, is `Other` and isn't kept.
+    // Decodes the instruction at `ir` and keeps it. If `ir` is odd, or not all twelve cells lie in core, the entry becomes empty.
     #[cold]
     #[inline(never)]
     fn learn(&mut self, core: &Core<M>, ir: u32)
@@ -137,8 +137,9 @@ pub(crate) fn mask_below(j: u32) -> u64
     TEN_CELLS % (1 << (6 * j))
 }
 
-// What instructions came to before, by their addresses. An entry says nothing of core but by the twelve cells themselves, so it never
-// has to be told of a store. The entries stand on the heap: within a machine they would be copied with it wherever it is handed on.
+// The decode cache: decoded instructions by their addresses. An entry depends on its twelve cells alone, and each look-up
+// compares them with core, so a store need not change it. The entries are on the heap: within a machine they would be copied
+// whenever it moves.
 #[derive(Drop)]
 pub(crate) struct Memo<const M: u32> {
     entries: Vec<KnownEntry<M>>,
@@ -149,7 +150,7 @@ pub(crate) struct Memo<const M: u32> {
 impl<const M: u32> Memo<M> {
     ghost use Rattle.cpu_step.specs.Known.{Comes};
 
-    // A memo that knows nothing. The error is want of memory.
+    // An empty decode cache. The error is want of memory.
     pub(crate) fn new(alloc: Global) -> Result<Self, AllocError>
         requires { IsSize M }
     {
@@ -158,8 +159,9 @@ impl<const M: u32> Memo<M> {
         Ok(Memo { entries, further })
     }
 
-    // What the instruction at `ir` comes to: as its entry says where its cells are the same, and else it's decoded and kept. Either way
-    // it's read from the entry: what two ways would come to would have to be put into memory first, to be taken apart again.
+    // The decoded instruction at `ir`. If its entry has another address or other cells, the instruction is decoded and kept
+    // first. The answer is always read from the entry: an answer from either of two places would first be put into memory, and
+    // then taken apart again.
     #[inline(always)]
     pub(crate) fn look(&mut self, core: &Core<M>, ir: u32) -> Known
         ensures { Comes core.now ir result }
@@ -171,7 +173,7 @@ impl<const M: u32> Memo<M> {
         e.known
     }
 
-    // The operands of the instruction at `ir` that these fields hold, by what is known of their chains.
+    // Works out the operands that these fields hold, for the instruction at `ir`, with the help of the kept further fields.
     #[inline(always)]
     pub(crate) fn operands(
         &mut self,
@@ -189,7 +191,7 @@ impl<const M: u32> Memo<M> {
     }
 }
 
-// What twelve cells come to, which stand at `ir`.
+// Decodes the twelve cells at `ir`, ten of them in `low` and two in `high`.
 #[cold]
 #[inline(never)]
 fn decode<const M: u32>(low: u64, high: u64, core: &Core<M>, ir: u32) -> Known
@@ -202,8 +204,8 @@ fn decode<const M: u32>(low: u64, high: u64, core: &Core<M>, ir: u32) -> Known
     }
 }
 
-// What an instruction comes to by its digits, which stand at `ir`. It stays a function of its own: then the compiler sees that `decode`
-// writes all of its answer, and a step that finds its entry needn't clear the place for one.
+// Decodes the instruction at `ir` by its digits. It stays a function of its own: then the compiler sees that `decode` writes its
+// whole answer, and a step that finds its entry needn't clear the place for an answer.
 #[inline(never)]
 fn known_by<const M: u32>(i: &Instr, core: &Core<M>, ir: u32) -> Known
     requires twelve { length i.now.cells ≡ 12 }
@@ -222,7 +224,7 @@ fn known_by<const M: u32>(i: &Instr, core: &Core<M>, ir: u32) -> Known
     }
 }
 
-// What a row comes to at whose fields no chain begins.
+// The decoded instruction of a row that has no chain at its fields.
 fn known_row<const M: u32>(row: Row, fields: Fields, i: &Instr, core: &Core<M>, ir: u32) -> Known
     requires row { IsRow i.now row fields }
     requires plain { is_chained fields ≡ false }

@@ -24,7 +24,7 @@ impl<const M: u32> Machine<M> {
     ///
     /// The mode is Running. After a step without a stop IR is the address of the next instruction. After a stop IR is still the address
     /// of the instruction that stopped, and what its completed cycles stored or typed stays. A read that meets no card or a jam changes
-    /// no cell. `Failed` comes only where the host's count of faults rose: a first part of the step's effects is done then.
+    /// no cell. The answer is `Failed` only if the host's count of faults rose: then a first part of the step's effects is done.
     /// Source: CPU manual, instruction descriptions; the order of the checks is this project's own.
     #[inline(always)]
     pub fn step<H: Host>(&mut self, host: &mut H) -> Turned
@@ -46,8 +46,9 @@ impl<const M: u32> Machine<M> {
         }
     }
 
-    // The rest of a step whose instruction is of this row. An arm of `step` that has a local stands apart, as this one does: the locals of
-    // `step` itself are set to zero in each step, whichever arm it takes. Each row ends in `settle` for itself, as each arm of `step` does.
+    // The rest of a step whose instruction has this row. An arm of `step` with locals is a function of its own, like this one:
+    // the locals of `step` itself are set to zero in each step, whichever arm it takes. Each row calls `settle` for itself, as
+    // each arm of `step` does.
     #[inline(always)]
     fn row_step<H: Host>(&mut self, row: Row, o: Operands, host: &mut H) -> Turned
         requires ir { self.old.regs.ir + 12 ≤ size M }
@@ -81,7 +82,7 @@ impl<const M: u32> Machine<M> {
         }
     }
 
-    // The same of a row of the input and output units. It stands apart as the arms of `step` do.
+    // The rest of a step of a row of the input and output units. It is a function of its own, as the arms of `step` are.
     #[inline(always)]
     fn in_out_step<H: Host>(&mut self, row: InOutRow, p: u32, regs: Regs, host: &mut H) -> Turned
         requires p { p < size M }
@@ -93,7 +94,7 @@ impl<const M: u32> Machine<M> {
         self.settle(outcome)
     }
 
-    // The same of this branch.
+    // The rest of a step of this branch.
     #[inline(always)]
     fn branch_step(&mut self, op: BranchOp, o: BranchOperands) -> Turned
         requires p { o.p < size M }
@@ -105,7 +106,8 @@ impl<const M: u32> Machine<M> {
         self.settle(outcome)
     }
 
-    // The same of a branch that is not kept as one. It is no part of `step`, which would be too large then to be made a part of a run's loop.
+    // The rest of a step of a branch that isn't kept as `Known::Branch`. It isn't inlined: `step` would then be too large to be
+    // inlined into a run's loop.
     #[inline(never)]
     fn unkept_branch_step(&mut self, op: BranchOp, o: BranchOperands) -> Turned
         requires p { o.p < size M }
@@ -116,7 +118,7 @@ impl<const M: u32> Machine<M> {
         self.branch_step(op, o)
     }
 
-    // The same where an operand is a chain, or it isn't known what the instruction comes to.
+    // A step whose instruction has a chain, or isn't decoded in the decode cache.
     #[inline(always)]
     fn chained_step<H: Host>(&mut self, host: &mut H) -> Turned
         ensures { InstructionSettles M self.old self.new (H.seen host.old) (H.seen host.new) result }
@@ -125,8 +127,8 @@ impl<const M: u32> Machine<M> {
         self.settle(outcome)
     }
 
-    // Ends a step whose instruction ended so. Each arm of `step` ends in it for itself: what all of them came to would have to be put
-    // into memory first, to be taken apart again.
+    // Ends a step by its instruction's outcome. Each arm of `step` calls it for itself: the outcome of all arms would first be
+    // put into memory, and then taken apart again.
     #[inline(always)]
     fn settle(&mut self, outcome: Outcome) -> Turned
         ensures { Settles M self.old self.new outcome result }
@@ -180,7 +182,7 @@ impl<const M: u32> Machine<M> {
         Turned::Stop(kind)
     }
 
-    // Carries the instruction at IR out, where an operand is a chain, or it isn't known what it comes to.
+    // Carries out the instruction at IR, if it has a chain or isn't decoded in the decode cache.
     #[inline(never)]
     fn through_chains<H: Host>(&mut self, host: &mut H) -> Outcome
         ensures { Acts M instruction self.old self.new (H.seen host.old) (H.seen host.new) result }

@@ -1,4 +1,4 @@
-// What the next step may store.
+// The cells that the next step may store.
 ghost use Rattle.std.specs.Prelude.{◌≡◌, ◌+◌, ◌≤◌, length, Ok};
 ghost use Rattle.digit_core.specs.Size.{size};
 ghost use Rattle.addr_indirect.specs.Fetch.{fetch};
@@ -14,28 +14,28 @@ use instruction_table::MayStore;
 
 /// The cells that a step may store; all others stay as they are.
 ///
-/// It may be more than what the step does store, and a step that stops may store less.
+/// The step may store fewer cells than these, for instance if it stops.
 /// Source: this project's own, over the CPU manual's instruction descriptions.
 #[derive(Clone, Copy, Debug, PartialEq, Eq)]
 pub enum Stores {
-    /// None.
+    /// No cell.
     Nothing,
     /// The cell at this address.
     Cell(u32),
-    /// The cells from this address down to the first flag below it, as flags stand after the step; down to 00000 where there is none.
-    /// A flag at the address itself is no end.
+    /// The cells from this address down to the first flag below it, by the flags after the step; down to 00000 if there is no
+    /// flag. A flag at the address itself is not an end.
     Down(u32),
-    /// The cells from this address up to the first record mark, which may stand at the address itself, as record marks stand after the
-    /// step; up to the end of core where there is none.
+    /// The cells from this address up to the first record mark, by the record marks after the step; up to the end of core if
+    /// there is no record mark. The record mark may be at the address itself.
     Up(u32),
-    /// Any: nothing is known.
+    /// Any cells.
     Anywhere,
 }
 
 impl<const M: u32> Machine<M> {
     ghost use Rattle.cpu_step.specs.Stores.{ShowsTheSame, stores_at};
 
-    /// What the next step may store: a look at the instruction at IR, before `step` is called.
+    /// The cells that the next step may store, by the instruction at IR; it is called before `step`.
     ///
     /// The machine stays as it is. An address in the answer is below the size of core. The answer is `Anywhere` for an instruction that
     /// reads a card or a line of the keyboard, moves a flag or works on the disk, and for no other.
@@ -58,8 +58,8 @@ impl<const M: u32> Machine<M> {
     }
 }
 
-// What the step at `ir` may store, where it isn't known what the instruction comes to: it's fetched, and what stops before its action
-// stores nothing.
+// The cells that the step at `ir` may store, if the decode cache doesn't say: the instruction is fetched, and it stores nothing
+// if it stops before its action.
 #[inline(never)]
 fn decoded_stores<const M: u32>(core: &Core<M>, ir: u32) -> Stores
     ensures is { result ≡ stores_at core.now ir }
@@ -72,7 +72,7 @@ fn decoded_stores<const M: u32>(core: &Core<M>, ir: u32) -> Stores
     }
 }
 
-// The same of an instruction that was fetched.
+// The cells that a fetched instruction may store.
 fn fetched_stores<const M: u32>(core: &Core<M>, ir: u32, i: &Instr) -> Stores
     requires inside { ir + 12 ≤ size M }
     requires twelve { length i.now.cells ≡ 12 }
@@ -91,7 +91,7 @@ fn fetched_stores<const M: u32>(core: &Core<M>, ir: u32, i: &Instr) -> Stores
     }
 }
 
-// What an instruction may store over its operands, by the table's column.
+// The cells that an instruction may store over its operands, by the table's column.
 fn stores_by(stores: MayStore, o: Operands) -> Stores
     ensures { result ≡ stores_by stores o }
 {

@@ -8,7 +8,7 @@ use Rattle.deck_punch.specs.declared.cards.TheConstants.{TRANSMIT_DIGIT, TRANSMI
 use Rattle.deck_punch.specs.Cut.{SEGMENT_DIGITS}
 use Rattle.card_columns.specs.Orders.{instruction_columns}
 
--- the next card is read into 00000 to 00079, and the machine goes on there: what stands in 00024 to 00047 of a segment's card
+-- the two instructions in 00024 to 00047 of a segment's card: read the next card into 00000 to 00079, and go on at 00000
 abbrev pub read_and_go : List Digit → List Digit
 read_and_go ds = instruction_columns READ_NUMERICALLY 0 CARD_READER (instruction_columns BRANCH 0 0 ds)
 
@@ -16,7 +16,7 @@ read_and_go ds = instruction_columns READ_NUMERICALLY 0 CARD_READER (instruction
 abbrev pub right_part : List Digit → List Digit
 right_part ds = replicate (SEGMENT_DIGITS - length ds) (unflagged_digit 0) ++ ds
 
--- what stands in 00012 to 00023 of the card of two digits or more: a flag that the lowest digit doesn't have in the image is cleared
+-- the instruction in 00012 to 00023 of the card of two digits or more: it clears the lowest digit's flag unless the image has it
 abbrev pub unflagging : Bool → ℕ → List Digit → List Digit
 unflagging flagged low ds = if flagged then instruction_columns NO_OPERATION 0 0 ds else instruction_columns CLEAR_FLAG low 0 ds
 
@@ -30,7 +30,7 @@ segment_digits low (d ∷ e ∷ ds) =
     instruction_columns TRANSMIT_FIELD (low + suc (length ds)) LAST_COLUMN
     (unflagging d.flag low (read_and_go (right_part (with_flag true d ∷ e ∷ ds))))
 
--- the transfer card: a jump to the start, and, where the card before it goes on, a jump to that jump
+-- the transfer card: a jump to the start, and at 00036, at which the card before goes on, a jump to that jump
 unfoldable pub transfer_digits : ℕ → List Digit
 transfer_digits start =
     instruction_columns BRANCH start 0 (replicate 24 (unflagged_digit 0) ++ instruction_columns BRANCH 0 0 (replicate SEGMENT_DIGITS (unflagged_digit 0)))

@@ -12,22 +12,21 @@ SEGMENT_DIGITS = 32
 abbrev pub DENSE_DIGITS : ℕ
 DENSE_DIGITS = 69
 
--- the same by the form of the deck
+-- how many digits a card has room for, by the form of the deck
 abbrev pub room_in : DeckForm → ℕ
 room_in SelfLoading = SEGMENT_DIGITS
 room_in Dense = DENSE_DIGITS
 
--- a dense segment ends behind its first inner flag, or behind its second where its first digit has a flag
+-- a dense segment ends after its first inner flag, or after its second if its first digit has a flag
 abbrev pub flags_within : Digit → ℕ
 flags_within d = if d.flag then 2 else 1
 
--- behind how many inner flags a segment ends that begins with a digit
+-- a segment that begins with this digit ends after this number of inner flags
 abbrev pub flags_in : DeckForm → Digit → ℕ
 flags_in SelfLoading d = 1
 flags_in Dense d = flags_within d
 
--- how many of the digits behind its first a segment takes that has room for so many, and ends behind so many flagged ones, or with the
--- piece
+-- how many digits a segment takes after its first: at most `room`, and none after `flags` flagged digits
 unfoldable pub take_count : ℕ → ℕ → List Digit → ℕ
 take_count flags zero ds = 0
 take_count zero (suc room) ds = 0
@@ -42,7 +41,7 @@ abbrev pub front : DeckForm → List Digit → List Digit
 front form [] = []
 front form (d ∷ ds) = d ∷ take (take_count_in form d ds) ds
 
--- the segments of digits from an address on, of which the first so many belong to the segment before
+-- the segments of digits from address a on; the first `before` digits belong to the segment before
 unfoldable pub segments_from : DeckForm → ℕ → ℕ → List Digit → List DigitRun
 segments_from form a before [] = []
 segments_from form a (suc before) (d ∷ ds) = segments_from form (a + 1) before ds

@@ -5,7 +5,7 @@ use Rattle.deck_punch.specs.Cut.{cut}
 use Rattle.deck_punch.specs.Tables.{with_tables}
 use Rattle.deck_punch.specs.Cards.{card_of, transfer_card}
 
--- the segments of a deck: those of the table piece, and then those of the other pieces of the image
+-- the segments of a deck: the segments of the table piece, and then of the other pieces of the image
 abbrev pub segments : List DigitRun → List DigitRun
 segments image = cut (with_tables image)
 
@@ -17,6 +17,6 @@ cards_of pieces = map card_of (cut pieces)
 abbrev pub deck : List DigitRun → ℕ → List (List ℕ)
 deck image start = cards_of (with_tables image) ++ transfer_card start ∷ []
 
--- how many steps a deck of so many cards takes: four for each card but the transfer card, and one for that
+-- how many steps a deck with this number of cards takes: four for each card except the transfer card, and one for that card
 abbrev pub self_loading_steps : ℕ → ℕ
 self_loading_steps cards = 4 * (cards - 1) + 1

@@ -12,32 +12,32 @@ use Rattle.deck_punch.specs.Tables.{table_piece, other_pieces}
 use Rattle.deck_punch.specs.declared.cards.TheConstants.{READ_NUMERICALLY, BRANCH, CARD_READER}
 use Rattle.deck_punch.specs.declared.dense.TheConstants.{BUFFER_END, REPAIR_DIGIT}
 
--- A dense card is read into the buffer, 00100 to 00179. Then the field that ends at 00179 moves to its address, and the digit at 00110 to
--- the repair address. A move ends at a flag, so of the digits on the card the leftmost alone has one, and the last may; the repair puts
--- right the one digit whose flag is therefore not the image's.
+-- A dense card is read into the buffer, 00100 to 00179. Then the field that ends at 00179 moves to its address, and the digit at
+-- 00110 to the repair address. A move ends at a flag, so on the card only the leftmost digit has a flag, and the last may. Thus
+-- the flag of one digit may differ from the image; the repair puts this digit right.
 
--- where no digit is to be put right, the digit at 00110 moves to itself
+-- if no digit needs a repair, the digit at 00110 moves to itself
 abbrev pub nowhere : ℕ
 nowhere = REPAIR_DIGIT
 
--- a repair: the address, the digit that is put there, and the digits as they stand on the card
+-- a repair: the address, the digit that goes there, and the digits as the card has them
 pub record Repair : Type 0 where
   pub at : ℕ
   pub digit : Digit
   pub punched : List Digit
 
--- the same repair, behind one digit more
+-- a repair with one more digit in front on the card
 abbrev pub behind_digit : Digit → Repair → Repair
 behind_digit d r = record { at = r.at; digit = r.digit; punched = d ∷ r.punched }
 
--- digits from an address on, up to the first with a flag: that digit is put right, and is punched without its flag
+-- the repair of the first digit with a flag, from address a on: it is punched without its flag
 unfoldable pub first_flagged : ℕ → List Digit → Repair
 first_flagged a [] = record { at = nowhere; digit = unflagged_digit 0; punched = [] }
 first_flagged a (d ∷ ds) =
     if d.flag then record { at = a; digit = d; punched = with_flag false d ∷ ds }
     else behind_digit d (first_flagged (a + 1) ds)
 
--- the repair of the digits behind a first one: of that one where it has no flag, else of the first inner flag, if there is one
+-- the repair of a first digit and the digits after it: the first if it has no flag, else the first flagged one after it, if any
 abbrev pub repair_of : ℕ → Digit → List Digit → Repair
 repair_of low d ds = if d.flag then first_flagged (low + 1) ds else record { at = low; digit = d; punched = ds }
 
@@ -46,21 +46,21 @@ abbrev pub repair : ℕ → List Digit → Repair
 repair low [] = first_flagged low []
 repair low (d ∷ ds) = repair_of low d ds
 
--- what the card says of a repair: its address and its digit
+-- the digits of a repair on the card: its address and its digit
 abbrev pub repair_digits : Repair → List Digit
 repair_digits r = address r.at (r.digit ∷ [])
 
--- the digits as they stand on the card: the leftmost has a flag
+-- the digits as the card has them: the leftmost has a flag
 abbrev pub digits_on_card : ℕ → List Digit → List Digit
 digits_on_card low [] = []
 digits_on_card low (d ∷ ds) = with_flag true d ∷ (repair_of low d ds).punched
 
--- which of a segment's digits is put right
+-- the place of the digit to repair among a segment's digits
 abbrev pub place_of_repair : List Digit → Option ℕ
 place_of_repair [] = None
 place_of_repair (d ∷ ds) = if d.flag then option_map (λ k. k + 1) (position (λ e. e.flag) ds) else Some 0
 
--- digits right-adjusted to the end of the card, behind its first 11 columns
+-- digits right-adjusted to the end of the card, after its first 11 columns
 abbrev pub dense_part : List Digit → List Digit
 dense_part ds = replicate (DENSE_DIGITS - length ds) (unflagged_digit 0) ++ ds
 
@@ -72,7 +72,7 @@ dense_digits low (d ∷ e ∷ ds) =
     let repair = repair_of low d (e ∷ ds) in
     address (low + suc (length ds)) (address repair.at (repair.digit ∷ dense_part (with_flag true d ∷ repair.punched)))
 
--- an instruction whose P address is the field that ends at that address
+-- the P address of an instruction, an indirect one: the field that ends at 00100 + a has the address
 abbrev pub indirect : ℕ → List Digit → List Digit
 indirect a ds = unflagged_digit 0 ∷ unflagged_digit 0 ∷ unflagged_digit 1 ∷ unflagged_digit 0 ∷ with_flag true (unflagged_digit a) ∷ ds
 
@@ -84,7 +84,7 @@ loader_digits =
     (unflagged_digit 2 ∷ unflagged_digit 5 ∷ indirect 9 (address REPAIR_DIGIT
     (instruction_columns BRANCH 0 0 (replicate SEGMENT_DIGITS (unflagged_digit 0)))))))
 
--- the bridge card: its field turns the loop's jump to 00112, where the buffer has a reading into 00000 and a jump there
+-- the bridge card: its field changes the loop's jump to 00112; there the buffer has a read into 00000 and a jump to 00000
 unfoldable pub bridge_digits : List Digit
 bridge_digits =
     address 42 (address REPAIR_DIGIT (unflagged_digit 0 ∷ unflagged_digit 0 ∷
@@ -111,7 +111,7 @@ abbrev pub dense_deck : List DigitRun → ℕ → List (List ℕ)
 dense_deck image start =
     loader_card ∷ dense_cards_of (other_pieces image) ++ bridge_card ∷ cards_of (table_piece image ∷ []) ++ transfer_card start ∷ []
 
--- how many steps a dense deck of so many cards takes: four for each card but the loader card and the transfer card, two in the buffer
--- behind the bridge card, and one for the transfer card
+-- how many steps a dense deck with this number of cards takes: four for each card except the loader card and the transfer card,
+-- two in the buffer after the bridge card, and one for the transfer card
 abbrev pub dense_steps : ℕ → ℕ
 dense_steps cards = 4 * cards - 5

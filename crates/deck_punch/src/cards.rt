@@ -22,7 +22,7 @@ const CLEAR_FLAG: u8 = 33;
 
 const NO_OPERATION: u8 = 41;
 
-/// The opcode of a card's instruction that reads: the next card, or what else its Q address names.
+/// The opcode of a card's instruction that reads the next card, or reads from another device; its Q address names the device.
 ///
 /// Source: CPU manual, read numerically.
 pub const READ_NUMERICALLY: u8 = 36;
@@ -32,7 +32,7 @@ pub const READ_NUMERICALLY: u8 = 36;
 /// Source: CPU manual, branch.
 pub const BRANCH: u8 = 49;
 
-// Where the last column of a card stands that is read into 00000.
+// The address of a card's last column, if the card is read into 00000.
 const LAST_COLUMN: u32 = 79;
 
 /// The Q address of an instruction for the card reader, device 05.
@@ -42,9 +42,9 @@ pub const CARD_READER: u32 = 500;
 
 /// The card that loads a segment: four instructions, and the segment's digits at its right end.
 ///
-/// Read into 00000 to 00079 and started there, it copies its one digit, or moves the field of its digits, to the segment's address. A
-/// field needs a flag at its lowest digit; where the image has none there, the second instruction clears it. The third reads the next
-/// card over this one, and the fourth goes to that card's first instruction.
+/// Read into 00000 to 00079 and started there, it copies its one digit, or moves the field of its digits, to the segment's
+/// address. A field needs a flag at its lowest digit; if the image has no flag there, the second instruction clears it. The third
+/// reads the next card over this one, and the fourth goes to that card's first instruction.
 ///
 /// The segment's addresses are 00000 to 99999, and each of its digits is one that a cell can hold.
 /// Source: this project's own.
@@ -102,7 +102,7 @@ fn field_card(from: u32, digits: &[Digit]) -> Card
     columns.card()
 }
 
-// Adds the instruction that clears the flag of the lowest digit, or does nothing where the image has that flag.
+// Adds the instruction that clears the flag of the lowest digit, or one that does nothing if the image has that flag.
 fn unflag(card: &mut Columns, flagged: bool, low: u32)
     requires room { length card.old + 12 ≤ CARD_COLUMNS }
     requires below { low < address_count }
@@ -126,7 +126,7 @@ fn read_and_go(card: &mut Columns)
 
 /// The transfer card, the last card of a deck: it goes to the start.
 ///
-/// The card before reads it over itself and goes on at 00036. So a jump to 00000 stands there, and the jump to the start in 00000.
+/// The card before reads it over itself and goes on at 00036. So a jump to 00000 is at 00036, and the jump to the start at 00000.
 /// `start` is 00000 to 99999.
 /// Source: this project's own.
 pub fn transfer_card(start: u32) -> Card

@@ -17,8 +17,8 @@ use std::alloc::{AllocError, Global};
 
 /// The segments of an image for a self-loading deck: each piece is cut from its low end, one piece after the other.
 ///
-/// The first segment of a piece begins with it, and each other where the one before ended. A segment ends behind a flagged digit that is
-/// not its first, after 32 digits, or with the piece, whichever comes first. The error is want of memory.
+/// The first segment of a piece begins with the piece, and each other segment right after its predecessor. A segment ends after a
+/// flagged digit that is not its first, after 32 digits, or with the piece, whichever comes first. The error is a lack of memory.
 pub fn cut(alloc: Global, image: &Image) -> Result<Vec<Segment>, AllocError>
     ensures { IfOk result (λ segments. map segment_run segments.items ≡ cut image.now.pieces) }
 {
@@ -29,9 +29,9 @@ pub fn cut(alloc: Global, image: &Image) -> Result<Vec<Segment>, AllocError>
 
 /// The segments of an image for a dense deck: each piece is cut from its low end, one piece after the other.
 ///
-/// The first segment of a piece begins with it, and each other where the one before ended. A segment ends behind its first inner flag, or,
-/// where its first digit has a flag, behind its second; after 69 digits; or with the piece, whichever comes first. An inner flag is one on a
-/// digit that is not the segment's first. The error is want of memory.
+/// The first segment of a piece begins with the piece, and each other segment right after its predecessor. A segment ends after
+/// its first inner flag, or after its second if its first digit has a flag; after 69 digits; or with the piece, whichever comes
+/// first. An inner flag is a flag on a digit that is not the segment's first. The error is a lack of memory.
 pub fn cut_dense(alloc: Global, image: &Image) -> Result<Vec<DenseSegment>, AllocError>
     ensures { IfOk result (λ segments. map segment_run segments.items ≡ cut_dense image.now.pieces) }
 {
@@ -77,7 +77,7 @@ fn cut_piece<const N: usize>(
     Ok(())
 }
 
-// The segment at the front of some digits, the first of which stands at `from`.
+// The segment at the front of some digits; the first digit is at address `from`.
 fn front_segment<const N: usize>(from: u32, digits: &[Digit], form: DeckForm) -> SegmentOf<N>
     requires room { N ≡ room_in form }
     requires some { 1 ≤ length digits.now }
@@ -95,7 +95,7 @@ fn front_segment<const N: usize>(from: u32, digits: &[Digit], form: DeckForm) ->
     }
 }
 
-// How many flagged digits a segment takes behind its first, which is this one.
+// How many flagged digits a segment takes at most after its first digit.
 fn flags_in(form: DeckForm, first: Digit) -> usize
     ensures is { result ≡ flags_in form first }
     ensures some { 1 ≤ result }
@@ -106,7 +106,7 @@ fn flags_in(form: DeckForm, first: Digit) -> usize
     }
 }
 
-// How many of these digits a segment takes, which stand behind its first: up to so many flagged ones, where it has room for so many more.
+// How many digits a segment takes after its first: at most `room`, and none after `flags` flagged digits.
 fn take_count(flags: usize, room: usize, digits: &[Digit]) -> usize
     requires { 1 ≤ flags }
     ensures is { result ≡ take_count flags room digits.now }
@@ -126,17 +126,17 @@ fn take_count(flags: usize, room: usize, digits: &[Digit]) -> usize
     most
 }
 
-/// The segments of a piece cover it: one after the other they are its digits, from its address on, and each ends where [`cut`] says.
+/// The segments of a piece cover it: one after the other they are its digits, from its address on, and each ends as [`cut`] says.
 ///
-/// It does nothing; its clause is the law.
+/// The call does nothing; the law is its contract.
 pub fn cut_law()
     ensures { CutLaw }
 {}
 
-/// The dense segments of a piece cover it: one after the other they are its digits, from its address on, and each ends where [`cut_dense`]
-/// says.
+/// The dense segments of a piece cover it: one after the other they are its digits, from its address on, and each ends as
+/// [`cut_dense`] says.
 ///
-/// It does nothing; its clause is the law.
+/// The call does nothing; the law is its contract.
 pub fn dense_law()
     ensures { DenseLaw }
 {}

@@ -17,7 +17,7 @@ use digit_core::Digit;
 // The last position of the buffer into which the loader card reads, 00100 to 00179.
 const BUFFER_END: u32 = 179;
 
-// The position of the repair digit in the buffer: where no digit is put right, it moves to itself.
+// The position of the repair digit in the buffer; it moves to itself if no digit needs a repair.
 const REPAIR_DIGIT: u32 = 110;
 
 // A zero without a flag, and one with a flag.
@@ -31,11 +31,12 @@ const FLAGGED_ZERO: Digit = Digit {
     value: 0,
 };
 
-/// The dense card of a segment: its digits at the right end, and in front of them where they go.
+/// The dense card of a segment: its digits at the right end, and in front of them the addresses that they go to.
 ///
-/// The loader card reads it into its buffer, moves the field that ends in the last column to the segment's highest address, which the first
-/// five columns have, and the digit in column 11 to the repair address, which the next five have. A field ends at a flag, so its leftmost
-/// digit alone has one, and perhaps the last; the digit in column 11 puts right the one whose flag is not the image's.
+/// The loader card reads it into its buffer. It moves the field that ends in the last column to the segment's highest address,
+/// which the first five columns have. It moves the digit in column 11 to the repair address, which the next five columns have. A
+/// field ends at a flag, so only its leftmost digit, and perhaps its last, has a flag. The digit in column 11 replaces the digit
+/// whose flag is not as in the image.
 ///
 /// The segment's addresses are 00000 to 99999, and each of its digits is one that a cell can hold.
 pub fn dense_card_of(segment: &DenseSegment) -> Card
@@ -83,7 +84,7 @@ fn several_card(from: u32, digits: &[Digit]) -> Card
     columns.card()
 }
 
-// Adds the repair address and the digit that goes there.
+// Adds the repair address and the repair digit.
 fn put_right(columns: &mut Columns, from: u32, digits: &[Digit])
     requires some { 1 ≤ length digits.now }
     requires room { length columns.old + 6 ≤ CARD_COLUMNS }
@@ -104,7 +105,7 @@ fn put_right(columns: &mut Columns, from: u32, digits: &[Digit])
     }
 }
 
-// Which digit has a flag on the card that is not the image's: the first where it has none, else the first flagged one behind it.
+// The digit whose flag on the card differs from the image: the first if it has no flag, else the first flagged digit after it.
 fn place_of_repair(digits: &[Digit]) -> Option<usize>
     requires { 1 ≤ length digits.now }
     ensures { result ≡ place_of_repair digits.now }
@@ -123,7 +124,7 @@ fn first_flagged(digits: &[Digit]) -> Option<usize>
     digits.iter().position(|d| d.flag)
 }
 
-// Adds the digits as they stand on the card: the leftmost has a flag, and the one that is put right has none but there.
+// Adds the digits as the card has them: the leftmost has a flag, and the digit to repair has none unless it is the leftmost.
 fn punch(columns: &mut Columns, digits: &[Digit])
     requires some { 1 ≤ length digits.now }
     requires room { length columns.old + length digits.now ≤ CARD_COLUMNS }
@@ -151,7 +152,7 @@ pub fn loader_card() -> Card
     Card(*b"360010000500260010M00179250010R0011049000000000000000000000000000000000000000000")
 }
 
-/// The bridge card, behind the last dense card: it leads from the loader card to the self-loading cards of the tables.
+/// The bridge card, after the last dense card: it leads from the loader card to the self-loading cards of the tables.
 pub fn bridge_card() -> Card
     ensures { result.0 ≡ bridge_card }
 {

@@ -1,4 +1,4 @@
-// The tables as a deck loads them, and what else it loads.
+// The tables and the other pieces that a deck loads.
 // Source: this project's own.
 ghost use Rattle.std.specs.Prelude.{◌≡◌, ◌+◌, ◌≤◌, ◌<◌, ◌++◌, ◌∷◌, [], length, map, IfOk, OnOk};
 ghost use Rattle.digit_core.specs.declared.TheConstants.{MOST_POSITIONS};
@@ -11,15 +11,15 @@ use digit_core::{Digit, standard_digit};
 use sps_pass_two::{Digits, Image, Piece, Pieces};
 use std::alloc::{AllocError, Global};
 
-// Where the tables begin, and the address behind them.
+// The first address of the tables, and the address after them.
 const TABLES_FROM: u32 = 100;
 
 const TABLES_END: u32 = 400;
 
 /// The pieces that a deck loads: the table piece, and then the other pieces of an image.
 ///
-/// The table piece is 00100 to 00399, with the image's digit where the address is declared and the standard tables' digit elsewhere. The
-/// other pieces are the image's runs from 00400 on; what it declares below 00100 is left out. The error is want of memory.
+/// The table piece is 00100 to 00399, with the image's digit at each declared address and the standard tables' digit elsewhere.
+/// The other pieces are the image's runs from 00400 on; digits below 00100 are left out. The error is a lack of memory.
 pub fn with_tables(alloc: Global, image: &Image) -> Result<Image, AllocError>
     ensures { IfOk result (λ with. with.pieces ≡ with_tables image.now.pieces) }
 {
@@ -31,9 +31,10 @@ pub fn with_tables(alloc: Global, image: &Image) -> Result<Image, AllocError>
     })
 }
 
-/// The table piece alone: 00100 to 00399, with the image's digit where the address is declared and the standard tables' digit elsewhere.
+/// The table piece alone: 00100 to 00399, with the image's digit at each declared address and the standard tables' digit
+/// elsewhere.
 ///
-/// The error is want of memory.
+/// The error is a lack of memory.
 pub fn table_piece(alloc: Global, image: &Image) -> Result<Image, AllocError>
     ensures { IfOk result (λ table. table.pieces ≡ table_piece image.now.pieces ∷ []) }
 {
@@ -44,9 +45,9 @@ pub fn table_piece(alloc: Global, image: &Image) -> Result<Image, AllocError>
     })
 }
 
-/// The other pieces alone: what an image declares from 00400 on.
+/// The other pieces alone: the image's runs from 00400 on.
 ///
-/// The error is want of memory.
+/// The error is a lack of memory.
 pub fn other_pieces(alloc: Global, image: &Image) -> Result<Image, AllocError>
     ensures { IfOk result (λ others. others.pieces ≡ other_pieces image.now.pieces) }
 {
@@ -73,7 +74,7 @@ fn push_table(alloc: Global, pieces: &mut Vec<Piece>, image: &Image) -> Result<(
     Ok(())
 }
 
-// The digit of the tables at an address: the image's where one is declared, and else the standard tables'.
+// The digit of the tables at an address: the image's digit if it declares one, and else the standard tables' digit.
 fn table_digit(image: &Image, a: u32) -> Digit
     requires low { TABLES_FROM ≤ a }
     requires high { a < TABLES_END }
@@ -119,7 +120,7 @@ fn digit_at(piece: &Piece, a: u32) -> Option<Digit>
     }
 }
 
-// Adds what the pieces of an image have from 00400 on.
+// Adds the runs of an image from 00400 on.
 fn push_others(alloc: Global, pieces: &mut Vec<Piece>, image: &Image) -> Result<(), AllocError>
     ensures { OnOk result (map run_of pieces.new.items
         ≡ map run_of pieces.old.items ++ other_pieces image.now.pieces) }
@@ -130,7 +131,7 @@ fn push_others(alloc: Global, pieces: &mut Vec<Piece>, image: &Image) -> Result<
     Ok(())
 }
 
-// Adds what a piece has from 00400 on, if it has anything there.
+// Adds the digits of a piece from 00400 on, if it has any.
 fn push_left(alloc: Global, pieces: &mut Vec<Piece>, piece: &Piece) -> Result<(), AllocError>
     requires { piece.now.from + length piece.now.digits ≤ MOST_POSITIONS }
     ensures { OnOk result (map run_of pieces.new.items

@@ -8,7 +8,7 @@ use std::alloc::{AllocError, Global};
 
 /// The text of a deck: a line for each card, its 80 columns and a line feed.
 ///
-/// The error is want of memory.
+/// The error is a lack of memory.
 /// Source: this project's own.
 pub fn deck_bytes(alloc: Global, cards: &[Card]) -> Result<Vec<u8>, AllocError>
     ensures { IfOk result (λ bytes. bytes.items ≡ deck_text (map card_bytes cards.now)) }

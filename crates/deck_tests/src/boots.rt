@@ -10,7 +10,7 @@ use sps_pass_two::{Assembled, assemble};
 use std::alloc::Global;
 use std::test::Fail;
 
-// What lines come to in a core of one module, or of two, written from column 6 on.
+// The program of lines from column 6 on, for a core of one module, or of two.
 fn assembled(alloc: Global, lines: &[&str], two: bool) -> Result<Assembled, Fail> {
     let mut source = Vec::new(alloc);
     for line in lines {

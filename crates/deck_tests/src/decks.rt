@@ -1,4 +1,4 @@
-//! Decks of short sources and of one that fills core, worked out by hand.
+//! Decks of short sources, and of a source that fills core, worked out by hand.
 
 use card_code::Card;
 use card_unit::Hopper;
@@ -10,8 +10,8 @@ use sps_pass_two::{Assembled, assemble};
 use std::alloc::Global;
 use std::test::Fail;
 
-// What lines come to in a core of 20,000 positions. They are written from column 6 on: label in columns 6 to 11, operation in 12 to 15,
-// operands from 16 on.
+// The program of lines, for a core of 20,000 positions. The lines are written from column 6 on: label in columns 6 to 11, operation in
+// 12 to 15, operands from 16 on.
 fn assembled(alloc: Global, lines: &[&str]) -> Result<Assembled, Fail> {
     let mut source = Vec::new(alloc);
     for line in lines {
@@ -22,7 +22,7 @@ fn assembled(alloc: Global, lines: &[&str]) -> Result<Assembled, Fail> {
     Ok(assemble(alloc, source.as_slice(), 20_000)?)
 }
 
-// A halt at 00402 and a record mark at 00500: a segment of twelve digits, and one of a single digit.
+// A halt at 00402 and a record mark at 00500: a segment of twelve digits, and a segment of a single digit.
 const HALT_AND_MARK: &[&str] = &[
     "START H",
     "      DORG500",
@@ -94,7 +94,7 @@ fn spoil(core: &mut Core<1>) {
     }
 }
 
-// The machine once a program's deck was loaded over a core in which every cell has even parity: it runs at the start.
+// The machine after a program's deck was loaded over a core in which every cell has even parity: it runs at the start.
 fn loaded(alloc: Global, program: &Assembled, form: DeckForm) -> Result<Machine<1>, Fail> {
     let cards = object_deck(alloc, program, form)?;
     let steps = deck_steps(cards.len() as u64, form);
@@ -113,8 +113,8 @@ fn loaded(alloc: Global, program: &Assembled, form: DeckForm) -> Result<Machine<
     Ok(machine)
 }
 
-// Behind the deck's steps the tables, the halt and the record mark are good, as is the last card in 00000 to 00079, and each other cell is
-// as bad as before.
+// After the deck's steps the tables, the halt and the record mark are good, and each other cell is as bad as before. The test skips
+// 00000 to 00079, which hold the last card.
 #[test]
 fn a_deck_loads_over_a_core_without_a_good_cell(rt: HostRuntime) -> Result<(), Fail> {
     let program = assembled(rt.alloc(), HALT_AND_MARK)?;
@@ -173,12 +173,12 @@ fn a_dense_deck_has_a_loader_a_bridge_and_the_tables(rt: HostRuntime) -> Result<
     Ok(())
 }
 
-// The next number of a row of numbers without an order to see.
+// The next number of a pseudo-random sequence.
 fn next(seed: u32) -> u32 {
     seed.wrapping_mul(1_103_515_245).wrapping_add(12_345)
 }
 
-// A program of so many digits from 00402 on, of which about one in three has a flag, worked out from a number.
+// A program of a halt at 00402 and `count` pseudo-random digits after it; about one in three of these has a flag.
 fn digits_at_random(alloc: Global, count: u32, seed: u32) -> Result<Assembled, Fail> {
     let mut lines = Vec::new(alloc);
     lines.push("START H")?;

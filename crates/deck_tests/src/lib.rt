@@ -1,5 +1,5 @@
-//! Object decks: how images are cut into segments and punched on cards, and what the decks load. Programs on disk: their sectors, their bootstrap
-//! decks, and what these load.
+//! Object decks: how images are cut into segments and punched on cards, and how the decks load. Programs on disk: their sectors, their
+//! bootstrap decks, and how these load.
 #![tactic(auto)]
 
 #[cfg(test)]

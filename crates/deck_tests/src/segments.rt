@@ -10,7 +10,7 @@ use sps_pass_two::{Assembled, Image, assemble};
 use std::alloc::{AllocError, Global};
 use std::test::Fail;
 
-// A halt in 00402 to 00413, and what stands in 00500 and on: lines from column 6 on, with the operation in columns 12 to 15.
+// The program of a halt in 00402 to 00413, and of lines for 00500 on: from column 6 on, with the operation in columns 12 to 15.
 fn assembled(alloc: Global, lines: &[&str]) -> Result<Assembled, Fail> {
     let mut source = Vec::new(alloc);
     source.extend_from_slice(b"     START H\n           DORG500\n")?;
@@ -37,7 +37,7 @@ const SEGMENTS: [(&[&str], &[(u32, usize)]); 7] = [
     (&["      DSC 1,@"], &[(500, 1)]),
     (&["      DSC 32,1"], &[(500, 32)]),
     (&["      DSC 33,1"], &[(500, 32), (532, 1)]),
-    // a flag at the first digit ends nothing
+    // a flag at the first digit ends no segment
     (&["      DC  5,1"], &[(500, 5)]),
     (&["      DC  3,1", "      DC  3,1"], &[(500, 4), (504, 2)]),
     (
@@ -77,12 +77,12 @@ fn places_of(alloc: Global, image: &Image) -> Result<Vec<(u32, usize)>, AllocErr
     Ok(places)
 }
 
-// Lines beside the halt, and the pieces behind the table piece.
+// Lines in addition to the halt, and the pieces after the table piece.
 const OTHER_PIECES: [(&[&str], &[(u32, usize)]); 5] = [
     (&["      DSC 1,@"], &[(402, 12), (500, 1)]),
     (&["      DSC 1,7,391"], &[(402, 12)]),
     (&["      DSC 1,7,100", "      DSC 1,7,399"], &[(402, 12)]),
-    // a run that goes on behind 00399 is parted there
+    // a run that goes on past 00399 is divided there
     (&["      DSC 4,1234,398"], &[(400, 14)]),
     (&["      DSC 2,12,399"], &[(400, 1), (402, 12)]),
 ];
@@ -201,17 +201,17 @@ const DENSE_CARDS: [(&[&str], &[&str]); 4] = [
         &["      DSC 1,@"],
         &["0017900500|0000000000000000000000000000000000000000000000000000000000000000000]0"],
     ),
-    // a flag within is put right, and that of the last digit stays
+    // a flag within the segment is repaired, and the flag of the last digit stays
     (
         &["      DSC 1,-1", "      DSC 1,-2", "      DSC 1,-3"],
         &["0050200501K000000000000000000000000000000000000000000000000000000000000000000J2L"],
     ),
-    // nothing is to be put right
+    // nothing is to be repaired
     (
         &["      DC  5,1"],
         &["005040011000000000000000000000000000000000000000000000000000000000000000000]0001"],
     ),
-    // the first digit has no flag, and is put right
+    // the first digit has no flag, and is repaired
     (
         &["      DSC 2,1", "      DC  3,1"],
         &[
@@ -259,7 +259,7 @@ const DENSE_SEGMENTS: [(&[&str], &[(u32, usize)]); 7] = [
     ),
     // a first digit without a flag: the first inner flag ends it
     (&["      DSC 2,1", "      DC  3,1"], &[(500, 3), (503, 2)]),
-    // a first digit with a flag: the second one does
+    // a first digit with a flag: the second inner flag ends it
     (&["      DC  3,1", "      DC  3,1"], &[(500, 6)]),
     (
         &["      DC  3,1", "      DC  3,1", "      DC  3,1"],

@@ -18,7 +18,7 @@ six w j = w / 2 ^ (6 * j) % 2 ^ 6
 unfoldable pub cell_in : List ℕ → ℕ → ℕ
 cell_in ws a = six (slice_index ws (a / 10)) (a % 10)
 
--- the lowest n cells of a word are those from a upwards
+-- the lowest n cells of a word are the n cells from a upwards
 abbrev pub HasCells : ℕ → List ℕ → ℕ → ℕ → Type 0
 HasCells w cells a n = (j : ℕ) → j < n → six w j ≡ slice_index cells (a + j)
 
@@ -30,18 +30,18 @@ cells_of ws = map (cell_in ws) (range_with_len 0 (10 * length ws))
 abbrev pub ten_across : ℕ → ℕ → ℕ → ℕ
 ten_across low high j = low / 2 ^ (6 * j) + high * 2 ^ (60 - 6 * j) % 2 ^ 64 % 2 ^ 60
 
--- what is known of the add table is so
+-- the cells agree with the kept knowledge of the add table
 unfoldable pub IsTableKnown : AddTable → List ℕ → Type 0
 IsTableKnown Unseen cells = ⊤
 IsTableKnown Standard cells = HasAddTable cells
 IsTableKnown Other cells = HasAddTable cells → ⊥
 
--- what is known of it once at most ten cells have been stored from a on: nothing, where they may be its own
+-- the knowledge of the add table after at most ten cells are stored from a on: none, if they may be the table's
 abbrev pub note_store : AddTable → ℕ → AddTable
 note_store table a = if nat_lt (ADD_TABLE - 10) a && nat_lt a ADD_TABLE_END then Unseen else table
 
--- the words of a core of size m: the top four bits of each are 0, where the core is marked as sound each cell holds a digit, and
--- the add table is as it is known
+-- the words of a core of size m: the top four bits of each are 0, each cell holds a digit if the core is marked as sound, and the
+-- cells agree with the kept knowledge of the add table
 pub record IsPacked (m : ℕ) (ws : List ℕ) (sound : Bool) (table : AddTable) : Type 0 where
   pub is_size : IsSize m
   pub is_length : length ws ≡ m * MODULE_WORDS

@@ -10,7 +10,7 @@ unfoldable pub first_up : (ℕ → Bool) → List ℕ → ℕ → ℕ → Option
 first_up p cells a zero = None
 first_up p cells a (suc n) = if p (slice_index cells a) then Some a else first_up p cells (a + 1) n
 
--- the first of n positions below a, downwards
+-- the first of n positions below a, downwards, whose cell passes
 unfoldable pub first_down : (ℕ → Bool) → List ℕ → ℕ → ℕ → Option ℕ
 first_down p cells a zero = None
 first_down p cells a (suc n) = if p (slice_index cells (a - 1)) then Some (a - 1) else first_down p cells (a - 1) n
@@ -23,11 +23,11 @@ NonePasses p cells a n = (j : ℕ) → j < n → p (slice_index cells (a + j)) �
 abbrev pub first_up_words : (ℕ → Bool) → List ℕ → ℕ → ℕ → Option ℕ
 first_up_words p cells i end = first_up p cells (10 * i) (10 * (end - i))
 
--- the first in the words below word i, downwards to word `end`
+-- the first position in the words below word i, downwards to word `end`, whose cell passes
 abbrev pub first_down_words : (ℕ → Bool) → List ℕ → ℕ → ℕ → Option ℕ
 first_down_words p cells i end = first_down p cells (10 * i) (10 * (i - end))
 
--- up to word `end`, and down to it, the search comes to the same from word i as from word k
+-- the search up to word `end`, or down to it, gives the same from word i as from word k
 abbrev pub AgreeUp : (ℕ → Bool) → List ℕ → ℕ → ℕ → ℕ → Type 0
 AgreeUp p cells end i k = first_up_words p cells i end ≡ first_up_words p cells k end
 

@@ -6,15 +6,15 @@ use Rattle.digit_core.specs.Packed.{six}
 use Rattle.digit_core.specs.Search.{has_mark, is_bad_cell, is_undecimal}
 use Rattle.digit_core.specs.Cell.{has_flag}
 
--- the field whose units are the highest cell of w has n digits: the flag that ends it stands there, and none between
--- it and the units
+-- the field whose units are the highest cell of w has n digits: its highest digit has a flag, and no digit between it and the
+-- units has one
 pub record EndsField (w n : ℕ) : Type 0 where
   pub two : 2 ≤ n
   pub ten : n ≤ 10
   pub flag : has_flag (six w (10 - n)) ≡ true
   pub between : (j : ℕ) → 10 - n < j → j < 9 → has_flag (six w j) ≡ false
 
--- the record whose first digit is the lowest cell of w has n digits: a record mark ends it, and none stands before it
+-- the record whose first digit is the lowest cell of w has n digits: the last is a record mark, and no digit before it is
 pub record EndsRecord (w n : ℕ) : Type 0 where
   pub some : 1 ≤ n
   pub ten : n ≤ 10
@@ -27,7 +27,7 @@ pub record IsLowest (ones j : ℕ) : Type 0 where
   pub one : six ones j ≡ 1
   pub before : (i : ℕ) → i < j → six ones i ≢ 1
 
--- the highest
+-- the highest cell of a word that is 1
 pub record IsHighest (ones j : ℕ) : Type 0 where
   pub ten : j < 10
   pub one : six ones j ≡ 1
@@ -37,11 +37,11 @@ pub record IsHighest (ones j : ℕ) : Type 0 where
 abbrev pub AreGood : ℕ → Type 0
 AreGood w = (j : ℕ) → j < 10 → is_bad_cell (six w j) ≡ false
 
--- each of its n lowest does
+-- each of the word's n lowest cells holds a digit
 abbrev pub AreGoodUpTo : ℕ → ℕ → Type 0
 AreGoodUpTo w n = (j : ℕ) → j < n → is_bad_cell (six w j) ≡ false
 
--- each of the cells that a mask names does
+-- each of the cells that a mask names holds a digit
 abbrev pub AreGoodAt : ℕ → ℕ → Type 0
 AreGoodAt w mask = (j : ℕ) → j < 10 → six mask j ≡ 1 → is_bad_cell (six w j) ≡ false
 

@@ -1,4 +1,4 @@
-//! Copies of many cells, by whole words where that serves.
+//! Copies of many cells, most of them by whole words.
 //!
 //! Source: this project's own.
 
@@ -20,8 +20,7 @@ const EIGHT_ZEROS: u64 = 0x0820_8208_2082_0000;
 
 /// The ten cells from cell number `j` of a word on, in it and in the next, as one word.
 ///
-/// `j` is below 10. `low` is a word of core, whose top four bits are 0; `high` is the next word, of which only the lowest `j` cells are
-/// looked at.
+/// `j` is below 10. `low` is a word of core, whose top four bits are 0. `high` is the next word; only its lowest `j` cells count.
 #[inline]
 pub fn ten_across(low: u64, high: u64, j: u32) -> u64
     requires place { j < 10 }
@@ -81,7 +80,7 @@ fn whole_down(words: &mut [u64], i: usize, s: usize, count: usize)
     }
 }
 
-// The same, the highest first.
+// Copies words from cell number `j` of word `s` on, the highest first.
 fn across_down(words: &mut [u64], i: usize, s: usize, j: u32, count: usize)
     requires place { j < 10 }
     requires order { s < i }
@@ -156,7 +155,7 @@ fn put_few(words: &mut [u64], a: u32, n: u32, w: u64)
     ensures length { length words.new ≡ length words.old }
     ensures sixty_bits { All (λ w. w < 2 ^ 60) words.new }
 {
-    // An address of 16 bits is divided by one multiplication.
+    // An address has at most 16 bits, so that its division by 10 is one multiplication.
     let a = a as u16;
     let i = (a / 10) as usize;
     let j = u32::from(a % 10);
@@ -170,7 +169,8 @@ fn put_few(words: &mut [u64], a: u32, n: u32, w: u64)
 }
 
 impl<const M: u32> Core<M> {
-    /// Copies the `n` cells that end at `q`, as they stand, to the `n` cells that end at `p`, good or not. All other cells stay.
+    /// Copies the `n` cells that end at `q`, good or not, to the `n` cells that end at `p`, as if all were read first. All other
+    /// cells stay.
     ///
     /// `p` and `q` are below the size of core. `n` is 1 or more, and no more than `p + 1` and `q + 1`.
     pub fn copy_cells(&mut self, p: u32, q: u32, n: u32)
@@ -189,7 +189,7 @@ impl<const M: u32> Core<M> {
         }
     }
 
-    // The lowest cells first: those up to the edge of a word, whole words, and those that are left.
+    // Copies the lowest cells first: up to the edge of a word, then whole words, then the rest.
     fn copy_up(&mut self, to: u32, from: u32, n: u32)
         requires order { to ≤ from }
         requires room { from + n ≤ size M }
@@ -207,7 +207,7 @@ impl<const M: u32> Core<M> {
         self.copy_few(to + n - tail, from + n - tail, tail);
     }
 
-    // The highest cells first: those above the edge of a word, whole words, and those that are left.
+    // Copies the highest cells first: down to the edge of a word, then whole words, then the rest.
     fn copy_down(&mut self, to: u32, from: u32, n: u32)
         requires order { from ≤ to }
         requires room { to + n ≤ size M }
@@ -257,7 +257,7 @@ impl<const M: u32> Core<M> {
         (low >> k) + (high << (60 - k)) % (1 << 60)
     }
 
-    // Whole words from word `i` on, the lowest first: as they stand, or each from two.
+    // Copies to whole words from word `i` on, the lowest first: each from one word, or from parts of two.
     fn copy_words_up(&mut self, i: u32, from: u32, count: u32)
         requires order { 10 * i ≤ from }
         requires room { from + 10 * count ≤ size M }
@@ -272,7 +272,7 @@ impl<const M: u32> Core<M> {
         }
     }
 
-    // Whole words from word `i` on, the highest first: as they stand, or each from two.
+    // Copies to whole words from word `i` on, the highest first: each from one word, or from parts of two.
     fn copy_words_down(&mut self, i: u32, from: u32, count: u32)
         requires order { from ≤ 10 * i }
         requires room { 10 * i + 10 * count ≤ size M }
@@ -287,7 +287,7 @@ impl<const M: u32> Core<M> {
         }
     }
 
-    // The ten cells from cell number `j` of word `s` on, which two words have.
+    // The ten cells from cell number `j` of word `s` on, which lie in two words.
     #[inline]
     fn across(&self, s: u32, j: u32) -> u64
         requires some { 1 ≤ j }
@@ -311,7 +311,7 @@ impl<const M: u32> Core<M> {
         self.word_at(i as usize)
     }
 
-    // The same by an index of this size, so that words that stand side by side are read together.
+    // The word of `word` by an index of type `usize`, so that adjacent words are read together.
     #[inline]
     pub(crate) fn word_at(&self, i: usize) -> u64
         requires { i < M * 2000 }
@@ -331,7 +331,7 @@ impl<const M: u32> Core<M> {
         ensures word { result < 2 ^ 60 }
     {
         self.size_law();
-        // No address has more than 16 bits, which divide by one multiplication.
+        // An address has at most 16 bits, so that its division by 10 is one multiplication.
         let a = a as u16;
         let i = u32::from(a / 10);
         let j = u32::from(a % 10);
@@ -343,7 +343,7 @@ impl<const M: u32> Core<M> {
 
     /// The ten cells from cell number `j` of word number `i` upwards, as one word, from its lowest bits upwards.
     ///
-    /// `j` is below 10, and all ten lie in core. Of places ten apart `i` rises by one and `j` stays.
+    /// `j` is below 10, and all ten lie in core. For a place ten cells higher, `i` is one more and `j` stays.
     #[inline(always)]
     pub fn ten_of(&self, i: u32, j: u32) -> u64
         requires place { j < 10 }
@@ -357,11 +357,11 @@ impl<const M: u32> Core<M> {
         self.across(i, j)
     }
 
-    /// Replaces the ten cells from cell number `j` of word number `i` upwards by those of a word that is known to hold digits: it isn't
-    /// looked at. All other cells stay.
+    /// Replaces the ten cells from cell number `j` of word number `i` upwards by the cells of a word, without a check for digits.
+    /// All other cells stay.
     ///
-    /// `j` is below 10, and the ten cells lie in core. Of places ten apart `i` rises by one and `j` stays. Each cell of the word holds a
-    /// digit, unless a cell of core holds none.
+    /// `j` is below 10, and the ten cells lie in core. For a place ten cells higher, `i` is one more and `j` stays. Each cell of
+    /// the word holds a digit, unless a cell of core holds none.
     #[inline(always)]
     pub fn put_ten_digits_of(&mut self, i: u32, j: u32, w: u64)
         requires place { j < 10 }
@@ -393,8 +393,7 @@ impl<const M: u32> Core<M> {
         )
     }
 
-    /// Replaces the `n` cells from `a` upwards by the lowest `n` cells of a word that are known to hold digits: they aren't looked at. All
-    /// other cells stay.
+    /// Replaces the `n` cells from `a` upwards by the lowest `n` cells of a word, with no check for digits. All others stay.
     ///
     /// `n` is at most 10, and the cells lie in core. Each of these cells holds a digit, unless a cell of core holds none.
     pub fn put_digits(&mut self, a: u32, n: u32, w: u64)
@@ -411,8 +410,8 @@ impl<const M: u32> Core<M> {
         put_few(&mut self.words, a, n, w);
     }
 
-    /// The same as `put_digits`, for a field or a record that is stored at once: what `find_add_table` found stays known unless it may be
-    /// part of the add table.
+    /// Does the same as `put_digits`, for a whole field or record: the answer of `find_add_table` is forgotten only if these
+    /// cells may be part of the add table.
     ///
     /// `n` is 1 to 10.
     pub fn put_field(&mut self, a: u32, n: u32, w: u64)

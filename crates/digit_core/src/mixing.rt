@@ -1,4 +1,4 @@
-//! Two cores side by side: one becomes the other, or takes some of its words, and what they differ in.
+//! Two cores: a copy of one to the other, whole or by some words, and the words in which they differ.
 //!
 //! Source: this project's own.
 
@@ -12,7 +12,7 @@ use crate::standard_tables::AddTable;
 // How many words are compared at a time.
 const AT_A_TIME: usize = 64;
 
-// Copies the words from number `i` on that are below number `end` from others.
+// Copies the words from number `i` on, below number `end`, of `from`.
 fn copy_between(words: &mut [u64], from: &[u64], i: usize, end: usize)
     requires order { i ≤ end }
     requires room { end ≤ length words.old }
@@ -30,7 +30,7 @@ fn copy_between(words: &mut [u64], from: &[u64], i: usize, end: usize)
     }
 }
 
-// Whether so many words from number `k` on are the same.
+// Whether the `n` words from number `k` on are equal in both lists.
 fn are_same(words: &[u64], others: &[u64], k: usize, n: usize) -> bool
     requires room { k + n ≤ length words.now }
     requires same_length { length others.now ≡ length words.now }
@@ -39,7 +39,7 @@ fn are_same(words: &[u64], others: &[u64], k: usize, n: usize) -> bool
     words[k..k + n] == others[k..k + n]
 }
 
-// How many words at the front are the same.
+// How many words at the front are equal in both lists.
 fn same_front(words: &[u64], others: &[u64]) -> usize
     requires same_length { length others.now ≡ length words.now }
     ensures within { result ≤ length words.now }
@@ -56,7 +56,7 @@ fn same_front(words: &[u64], others: &[u64]) -> usize
     k
 }
 
-// Where the words at the back begin that are the same, none of them below number `least`.
+// The number, at least `least`, from which on all words are equal in both lists.
 fn same_back(words: &[u64], others: &[u64], least: usize) -> usize
     requires same_length { length others.now ≡ length words.now }
     requires least { least ≤ length words.now }
@@ -84,7 +84,7 @@ impl<const M: u32> Core<M> {
         self.add_table = from.add_table;
     }
 
-    /// Copies the words from number `i` on that are below number `end` from another core, good or not. All other cells stay.
+    /// Copies the words from number `i` on, below number `end`, of another core, good or not. All other cells stay.
     ///
     /// `i` is no more than `end`, and `end` no more than the number of words.
     pub fn copy_words(&mut self, from: &Core<M>, i: u32, end: u32)
@@ -97,9 +97,9 @@ impl<const M: u32> Core<M> {
         copy_between(&mut self.words, &from.words, i as usize, end as usize);
     }
 
-    /// The words that differ from those of another core lie between two numbers: from the first on, and below the second.
+    /// Two numbers: all words that differ from another core's lie from the first number on, below the second.
     ///
-    /// Where no word differs, both are the same number.
+    /// If no word differs, the two numbers are equal.
     pub fn changed_words(&self, other: &Core<M>) -> (u32, u32)
         ensures order { result.0 ≤ result.1 }
         ensures room { result.1 ≤ M * 2000 }

@@ -1,4 +1,4 @@
-//! Room for a core that is made later, where no memory may be taken any more.
+//! Room for a core that is made later, when no memory may be taken any more.
 //!
 //! Source: this project's own.
 
@@ -13,7 +13,7 @@ use std::marker::Model;
 
 /// Room for a core, of 20,000 cells for each unit of `M`.
 ///
-/// It is reserved, and touched only once a core is made in it. So no page of memory stands behind it before.
+/// It is reserved, but not touched before a core is made in it. So the system need not give a page of memory before.
 #[derive(Drop)]
 pub struct CoreRoom<const M: u32> {
     // Empty, with room for all words of a core.

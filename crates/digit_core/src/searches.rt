@@ -1,4 +1,5 @@
-//! Searches over the cells, by whole words, and for flags and record marks by eight of them at once where none is found.
+//! Searches over the cells, by whole words. A search for flags or record marks skips eight words at once if no cell of them
+//! passes.
 //!
 //! Source: this project's own.
 
@@ -12,7 +13,7 @@ use crate::words::{highest, lowest, ones_between};
 use crate::{Core, MODULE_WORDS};
 
 impl<const M: u32> Core<M> {
-    /// The greatest position below `a` whose cell has a flag, whether it is good or not; `None` where there is none.
+    /// The greatest position below `a` whose cell, good or not, has a flag; `None` if there is no such position.
     ///
     /// `a` is below the size of core.
     pub fn flag_below(&self, a: u32) -> Option<u32>
@@ -26,7 +27,7 @@ impl<const M: u32> Core<M> {
         self.down_words::<Flag>(at, 0)
     }
 
-    /// The least position from `a` on whose cell is a record mark, flagged or not; `None` where there is none.
+    /// The least position from `a` on whose cell is a record mark, flagged or not; `None` if there is no such position.
     ///
     /// `a` is below the size of core.
     pub fn mark_above(&self, a: u32) -> Option<u32>
@@ -41,9 +42,9 @@ impl<const M: u32> Core<M> {
         self.up_words::<AnyRecordMark>(at, M * MODULE_WORDS)
     }
 
-    /// The first cell on the way from `a` to `b`, both included, that holds no digit; `None` where there is none.
+    /// The first cell on the way from `a` to `b`, both included, that holds no digit; `None` if there is no such cell.
     ///
-    /// `a` and `b` are below the size of core. Where `a` is above `b` the way goes down. No cell's number is 64 or more.
+    /// `a` and `b` are below the size of core. If `a` is above `b` the way goes down. No cell's number is 64 or more.
     pub fn first_bad(&self, a: u32, b: u32) -> Option<u32>
         requires a { a < size M }
         requires b { b < size M }
@@ -60,8 +61,8 @@ impl<const M: u32> Core<M> {
         }
     }
 
-    // The first bad cell from `a` upwards to `b`: in its word, in the words between, and in the last. It is looked for only where a bit of core
-    // has failed, and so one word after the other.
+    // The first bad cell from `a` upwards to `b`: in the first word, in the words between, or in the last. The search takes one
+    // word after the other: it is made only after a bit of core has failed.
     fn first_bad_up(&self, a: u32, b: u32) -> Option<u32>
         requires order { a ≤ b }
         requires b { b < size M }
@@ -101,7 +102,7 @@ impl<const M: u32> Core<M> {
         self.down_in::<BadCell>(last, b % 10, 10)
     }
 
-    // Among the cells of word `i` from number `from` on, below `to`: the lowest that passes.
+    // The lowest cell that passes among the cells of word `i` from number `from` on, below `to`.
     #[inline]
     fn up_in<S: Sought>(&self, i: u32, from: u32, to: u32) -> Option<u32>
         requires in_core { i < M * 2000 }
@@ -116,7 +117,7 @@ impl<const M: u32> Core<M> {
         }
     }
 
-    // Among the same cells: the highest that passes.
+    // The highest cell that passes among the cells of word `i` from number `from` on, below `to`.
     #[inline]
     fn down_in<S: Sought>(&self, i: u32, from: u32, to: u32) -> Option<u32>
         requires in_core { i < M * 2000 }
@@ -163,7 +164,7 @@ impl<const M: u32> Core<M> {
         None
     }
 
-    // Whether a cell may pass in the eight words from `i` on: where the answer is no, none does.
+    // Whether a cell may pass in the eight words from `i` on; if the answer is no, no cell passes.
     #[inline]
     fn in_eight<S: Sought>(&self, i: u32) -> bool
         requires { i + 8 ≤ M * 2000 }
@@ -179,7 +180,7 @@ impl<const M: u32> Core<M> {
         all != 0
     }
 
-    // Where a search downwards goes on once no cell passes in the words passed over, eight at a time.
+    // The word from which a search downwards goes on, after it skipped words in which no cell passes, eight at a time.
     #[inline]
     fn down_eights<S: Sought>(&self, i: u32, end: u32) -> u32
         requires order { end ≤ i }
@@ -198,7 +199,7 @@ impl<const M: u32> Core<M> {
         at
     }
 
-    // Where a search upwards does, likewise.
+    // The word from which a search upwards goes on, after it skipped words in which no cell passes, eight at a time.
     #[inline]
     fn up_eights<S: Sought>(&self, i: u32, end: u32) -> u32
         requires order { i ≤ end }

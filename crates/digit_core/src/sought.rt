@@ -1,4 +1,4 @@
-//! What a search looks for among the cells.
+//! The tests on cells that searches make.
 //!
 //! Source: this project's own.
 
@@ -17,7 +17,7 @@ pub(crate) trait Sought {
     fn ones(w: u64) -> u64
         ensures { (j : ℕ) → j < 10 → six result j ≡ one_if (passes (six w j)) };
 
-    // A word that is 0 only where no cell passes. It may have bits for others too.
+    // A word that is 0 only if no cell passes. It may also have bits for cells that don't pass.
     #[inline]
     fn hints(w: u64) -> u64
         ensures { result ≡ 0 → (j : ℕ) → j < 10 → passes (six w j) ≡ false }
@@ -49,7 +49,7 @@ impl Sought for AnyRecordMark {
         words::marks(w)
     }
 
-    // By the bits 8 and 2, which are seen in fewer steps; a group mark has them too.
+    // A test of the bits 8 and 2 takes fewer steps; a group mark also has them.
     #[inline]
     fn hints(w: u64) -> u64 {
         words::twos_with_eight(w)

@@ -57,7 +57,7 @@ pub(crate) fn with_part(w: u64, j: u32, n: u32, v: u64) -> u64
 {
     let k = 6 * j;
     let end = 1 << (6 * n);
-    // Where the two differ there, the word's own bits are turned round.
+    // The bits in which these cells of the two words differ are inverted.
     let changed = ((w >> k) ^ v) % end;
     w ^ (changed << k)
 }
@@ -96,7 +96,7 @@ pub(crate) fn marks(w: u64) -> u64
 // The bit 2 of each of the ten cells.
 const TWOS: u64 = 0x0082_0820_8208_2082;
 
-// A word with bit 2 of each cell that has both 8 and 2, as a record mark has them, and of no other.
+// A word with bit 2 of each cell that has both 8 and 2, as a record mark has, and with no other bit.
 #[inline]
 pub(crate) fn twos_with_eight(w: u64) -> u64
     ensures { result ≡ 0 → (j : ℕ) → j < 10 → has_eight_and_two (six w j) ≡ false }
@@ -104,7 +104,7 @@ pub(crate) fn twos_with_eight(w: u64) -> u64
     w & (w >> 2) & TWOS
 }
 
-// At the lowest bit of each cell: the parity of its bits 1, 2 and 4. Three above it: that of its bits 8, F and C.
+// The lowest bit of each cell is the parity of its bits 1, 2 and 4. The bit three above is the parity of its bits 8, F and C.
 #[inline]
 fn half_parities(w: u64) -> u64
     ensures { result ≡ bit_xor (bit_xor w (w / 2 ^ 1)) (w / 2 ^ 2) }
@@ -120,7 +120,8 @@ pub(crate) fn bads(w: u64) -> u64
 {
     let half = half_parities(w);
     let odd = half ^ (half >> 3);
-    // 11, 13 and 14 among the odd cells: 8, an odd number of 8, F and C, and so two of 4, 2 and 1 where there is 1 or 2.
+    // Finds 11, 13 and 14 among the odd cells: bit 8, an odd number of the bits 8, F and C, and bit 1 or 2. Then the number of
+    // the bits 4, 2 and 1 is even, and so two.
     let wrong = ((w & half) >> 3) & (w | (w >> 1));
     ((odd ^ ONES) | wrong) & ONES
 }
@@ -137,8 +138,7 @@ fn undecimals(w: u64) -> u64
     ((odd ^ ONES) | over_nine) & ONES
 }
 
-/// Whether each of a word's ten cells holds a digit: where the answer is yes, each does; where it
-/// is no, one of them does not.
+/// Whether each of a word's ten cells holds a digit.
 ///
 /// Source: this project's own.
 #[inline]
@@ -149,11 +149,9 @@ pub fn are_good(w: u64) -> bool
     bads(w) == 0
 }
 
-/// Whether each cell of a word that `mask` names holds a decimal digit: where the answer is yes,
-/// each does; where it is no, one of them does not.
+/// Whether each cell of a word that `mask` names holds a decimal digit.
 ///
-/// `mask` has 1 at each cell that it names and 0 at the others; only the lowest bit of a cell is
-/// looked at.
+/// `mask` has 1 at each cell that it names and 0 at the others; only the lowest bit of a cell counts.
 /// Source: this project's own.
 #[inline]
 pub fn are_decimal(w: u64, mask: u64) -> bool
@@ -163,11 +161,9 @@ pub fn are_decimal(w: u64, mask: u64) -> bool
     undecimals(w) & mask == 0
 }
 
-/// Whether each cell of a word that `mask` names holds a digit: where the answer is yes, each
-/// does; where it is no, one of them does not.
+/// Whether each cell of a word that `mask` names holds a digit.
 ///
-/// `mask` has 1 at each cell that it names and 0 at the others; only the lowest bit of a cell is
-/// looked at.
+/// `mask` has 1 at each cell that it names and 0 at the others; only the lowest bit of a cell counts.
 /// Source: this project's own.
 #[inline]
 pub fn are_good_at(w: u64, mask: u64) -> bool
@@ -268,9 +264,9 @@ fn top(ones: u64) -> Option<u32>
     Some((63 - ones.leading_zeros()) / 6)
 }
 
-/// How many digits the field has whose units are a word's highest cell, where it ends within the word; else `None`.
+/// The number of digits of the field whose units are a word's highest cell; `None` if the field doesn't end within the word.
 ///
-/// The flag of the units is no end of it.
+/// A flag at the units doesn't end the field.
 /// Source: CPU manual, data representation.
 #[inline(always)]
 pub fn field_in(w: u64) -> Option<u32>
@@ -283,8 +279,8 @@ pub fn field_in(w: u64) -> Option<u32>
     }
 }
 
-/// How many digits the record has whose first digit is a word's lowest cell, its record mark included, where it ends within the word;
-/// else `None`.
+/// The number of digits, with the record mark, of the record whose first digit is a word's lowest cell; `None` if the record
+/// doesn't end within the word.
 ///
 /// Source: CPU manual, data representation.
 #[inline]

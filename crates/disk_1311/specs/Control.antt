@@ -9,7 +9,7 @@ use Rattle.disk_1311.specs.declared.control.Control.{Control}
 use Rattle.addr_indirect.specs.Reading.{decimals_up}
 use Rattle.disk_1311.specs.declared.control.TheConstants.{CONTROL_LENGTH}
 
--- the number that digits are, the first being the highest
+-- the number of some digits, the highest first; n is the number of the digits before them
 abbrev pub number_from : ℕ → List ℕ → ℕ
 number_from n [] = n
 number_from n (v ∷ vs) = number_from (10 * n + v) vs
@@ -30,7 +30,7 @@ control_of vs = record {
 abbrev pub on_drives : ℕ → Control → Result Control Stop
 on_drives drives c = if nat_le 1 c.drive && nat_le c.drive drives then Ok c else Err Device
 
--- the control field at P, for so many drives: all 14 cells are read, and then the drive is looked at
+-- the control field at P, for this number of drives: all 14 cells are read, and then the drive is checked
 unfoldable pub control_field : List ℕ → ℕ → ℕ → Result Control Stop
 control_field core p drives = do
   vs ← decimals_up core p CONTROL_LENGTH

@@ -28,7 +28,7 @@ host_sector drive sector = DRIVE_SECTORS * (drive - 1) + sector
 abbrev pub arm_of : List ℕ → ℕ → ℕ
 arm_of arms drive = slice_index_or arms (drive - 1) 0
 
--- SK: the arm moves to the sector's cylinder, or 36 goes on where there is no such sector
+-- SK: the arm moves to the sector's cylinder, or 36 goes on if the sector doesn't exist
 unfoldable pub seek : List ℕ → ℕ → List ℕ → Trace DiskEffect ⊤ Stop
 seek core p arms = do
   c ← control_field core p (length arms)
@@ -47,16 +47,16 @@ is_group kind = false
 abbrev pub mark_check : Digit → Trace DiskEffect ⊤ Stop
 mark_check d = if d.value == GROUP_MARK then ends (Ok tt) else alarm_first DISK_LENGTH (ends (Ok tt))
 
--- a group mark must stand at a, else 37 goes on; past the end of core there is none
+-- 37 goes on if there is no group mark at a, or if a is past the end of core
 abbrev pub mark_at : List ℕ → ℕ → Trace DiskEffect ⊤ Stop
 mark_at core a =
     if nat_lt a (length core) then (read_at core a >>= mark_check) else alarm_first DISK_LENGTH (ends (Ok tt))
 
--- these forms look for a group mark just past the sectors moved
+-- the G forms look for a group mark at a, just past the sectors moved
 abbrev pub group_check : DiskKind → List ℕ → ℕ → Trace DiskEffect ⊤ Stop
 group_check kind core a = if is_group kind then mark_at core a else ends (Ok tt)
 
--- one sector moves, whose text has these bytes: R stores it at a, C compares it with the cells at a, W writes these
+-- one sector with these bytes moves: R stores them at a, C compares them with the cells at a, W writes these cells
 abbrev pub move_sector : DiskKind → List ℕ → ℕ → ℕ → List ℕ → Trace DiskEffect ⊤ Stop
 move_sector Rdgn core a sector bytes = lift Alters (read_sector a bytes)
 move_sector Rdn core a sector bytes = lift Alters (read_sector a bytes)
@@ -65,14 +65,14 @@ move_sector Cdn core a sector bytes = lift Alters (compare_sector core a bytes)
 move_sector Wdgn core a sector bytes = write_sector core a sector
 move_sector Wdn core a sector bytes = write_sector core a sector
 
--- what a transfer holds on to; of the sectors, what the pack has of each
+-- the part of a transfer that doesn't change; `sectors` gives the bytes that the pack has of each sector
 pub record Transfer : Type 0 where
   pub kind : DiskKind
   pub drive : ℕ
   pub cylinder : ℕ
   pub sectors : ℕ → List ℕ
 
--- what is done with the cells up to a; where core has no position a, it stops
+-- t uses the cells up to a; if core has no position a, it stops
 abbrev pub up_to : ℕ → List ℕ → Trace DiskEffect ⊤ Stop → Trace DiskEffect ⊤ Stop
 up_to a core t = if nat_lt a (length core) then t else ends (Err Address)
 
@@ -81,7 +81,7 @@ abbrev pub move_one : Transfer → List ℕ → ℕ → ℕ → Trace DiskEffect
 move_one t core a sector =
     move_sector t.kind core a (host_sector t.drive sector) (pack_sector_text t.sectors (host_sector t.drive sector))
 
--- so many sectors move, one after another; 38 goes on, and the moving ends, at another cylinder
+-- n sectors move, one after another; at another cylinder 38 goes on, and the moving ends
 unfoldable pub move_sectors : Transfer → List ℕ → ℕ → ℕ → ℕ → Trace DiskEffect ⊤ Stop
 move_sectors t core a sector zero = group_check t.kind core a
 move_sectors t core a sector (suc left) =
@@ -91,7 +91,7 @@ move_sectors t core a sector (suc left) =
     (λ core2 _. move_sectors t core2 (a + 100) (sector + 1) left))
     else alarm_first CYLINDER_OVERFLOW (group_check t.kind core a)
 
--- the arm of the drive stands at the sector's cylinder
+-- the sector exists, and the drive's arm is at its cylinder
 abbrev pub is_there : Control → List ℕ → Bool
 is_there c arms = nat_lt c.sector DRIVE_SECTORS && (cylinder_of c.sector == arm_of arms c.drive)
 
@@ -103,7 +103,7 @@ transfer_of kind c sectors = record { kind = kind; drive = c.drive; cylinder = c
 abbrev pub transfer_trace : DiskKind → Control → List ℕ → (ℕ → List ℕ) → Trace DiskEffect ⊤ Stop
 transfer_trace kind c core sectors = move_sectors (transfer_of kind c sectors) core c.address c.sector c.count
 
--- RDGN, CDGN, RDN, CDN, WDGN, WDN: nothing moves, and 36 goes on, where the arm doesn't stand at the sector
+-- RDGN, CDGN, RDN, CDN, WDGN, WDN: nothing moves, and 36 goes on, if the sector doesn't exist or the arm isn't at its cylinder
 unfoldable pub transfer : DiskKind → List ℕ → ℕ → List ℕ → (ℕ → List ℕ) → Trace DiskEffect ⊤ Stop
 transfer kind core p arms sectors = do
   c ← control_field core p (length arms)

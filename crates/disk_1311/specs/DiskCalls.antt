@@ -11,7 +11,7 @@ use Rattle.disk_1311.specs.Sector.{DiskEffect, Alters, SetsArm, Records, core_le
 use Rattle.disk_1311.specs.declared.DiskIo.{DiskIo}
 use Rattle.disk_1311.specs.declared.DiskIo.TheVariants as io
 
--- the panel, the arms and what the pack has of its sectors after some effects: reading changes nothing of it
+-- the panel, the arms and the sectors of the pack after some effects: reading doesn't change the sectors
 abbrev pub panel_left : Panel → List DiskEffect → Panel
 panel_left panel [] = panel
 panel_left panel (Alters (StoresCell s) ∷ es) = panel_left panel es
@@ -31,11 +31,11 @@ sectors_left sectors (Alters c ∷ es) = sectors_left sectors es
 sectors_left sectors (SetsArm d c ∷ es) = sectors_left sectors es
 sectors_left sectors (Records a bytes ∷ es) = sectors_left (with_sector a bytes sectors) es
 
--- the outside after some effects: its sectors alone change
+-- the world after some effects: only its sectors change
 abbrev pub world_left : World → List DiskEffect → World
 world_left w es = record w { sectors = option_map (λ sectors. sectors_left sectors es) w.sectors }
 
--- a seek was made: panel and arms are those that its effects leave
+-- a seek was made: its effects lead to the new panel and arms
 pub record MadeSeek (t : Trace DiskEffect ⊤ Stop) (panel : Panel) (arms : List ℕ) (new_panel : Panel)
     (new_arms : List ℕ) (r : Result ⊤ Stop) : Type 0 where
   pub answers : t.answer ≡ r
@@ -64,11 +64,11 @@ pub record DiskMoment : Type 0 where
 abbrev pub disk_moment : List ℕ → Panel → Seen → DiskMoment
 disk_moment core panel seen = record { core = core; panel = panel; seen = seen }
 
--- these effects led from one to the other
+-- these effects led from one moment to another
 abbrev pub DoneBetween : List DiskEffect → DiskMoment → DiskMoment → Type 0
 DoneBetween es old new = Done es old.core old.panel old.seen new.core new.panel new.seen
 
--- a transfer over sectors that are the told ones where they are told: all of it was done
+-- all of a transfer was done, over the sectors of the pack, or over any if the host doesn't reveal them
 pub record Transferred (t : (ℕ → List ℕ) → Trace DiskEffect ⊤ Stop) (old new : DiskMoment) (r : Result ⊤ Stop)
     : Type 0 where
   pub given : ℕ → List ℕ
@@ -76,7 +76,7 @@ pub record Transferred (t : (ℕ → List ℕ) → Trace DiskEffect ⊤ Stop) (o
   pub answers : (t given).answer ≡ r
   pub all : DoneBetween (t given).effects old new
 
--- the host failed after a first part of it
+-- the host failed after a first part of a transfer
 pub record TransferredFirst (t : (ℕ → List ℕ) → Trace DiskEffect ⊤ Stop) (old new : DiskMoment) : Type 0 where
   pub given : ℕ → List ℕ
   pub told : Tells old.seen.world.sectors given

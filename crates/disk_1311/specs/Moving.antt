@@ -15,7 +15,7 @@ abbrev pub text_or_stop : List ℕ → Result ⊤ Stop → Result (List ℕ) Sto
 text_or_stop text (Ok u) = Ok text
 text_or_stop text (Err why) = Err why
 
--- one sector was moved, over a whole text that is the told sector's where the sectors are told
+-- one sector was moved, over its text, or over any whole text if the host doesn't reveal the sectors
 pub record MovedSector (t : List ℕ → Trace DiskEffect ⊤ Stop) (sector : ℕ) (old new : DiskMoment)
     (r : Result ⊤ Stop) : Type 0 where
   pub given : List ℕ

@@ -9,7 +9,7 @@ use addr_indirect::{Stop, decimal_at};
 use digit_core::Core;
 use outside_io::ALL_SECTORS;
 
-// The number of sectors of a drive: the pack's are shared out among the drives.
+// The number of sectors of a drive: the drives share the sectors of the pack.
 pub(crate) const DRIVE_SECTORS: u32 = ALL_SECTORS as u32 / DRIVES as u32;
 
 // The number of digits of a control field.
@@ -20,7 +20,7 @@ const CONTROL_LENGTH: usize = 14;
 /// Source: 1311 manual.
 pub const CYLINDER_SECTORS: u32 = 200;
 
-// What a control field says: the drive, the first sector, how many sectors, and their place in core.
+// The contents of a control field: the drive, the first sector, the count of sectors, and their address in core.
 #[derive(Clone, Copy)]
 pub(crate) struct Control {
     pub(crate) drive: u32,
@@ -49,7 +49,7 @@ impl Control {
         DRIVE_SECTORS * (self.drive - 1) + sector
     }
 
-    // Whether there is a sector of this number, and the drive's arm stands at its cylinder.
+    // Whether the sector exists, and the drive's arm is at its cylinder.
     pub(crate) fn is_there(&self, arms: &[u32; DRIVES]) -> bool
         requires { (1 ≤ self.now.drive) × (self.now.drive ≤ length arms.now) }
         ensures { result ≡ is_there self.now arms.now }
@@ -65,7 +65,7 @@ pub(crate) fn cylinder_of(sector: u32) -> u32
     sector / CYLINDER_SECTORS
 }
 
-// The control field at `at`, for so many drives. Its 14 cells are read upwards, and then the drive is looked at.
+// The control field at `at`, for this number of drives. Its 14 cells are read upwards, and then the drive is checked.
 pub(crate) fn control_field<const M: u32>(
     core: &Core<M>,
     at: u32,
@@ -96,7 +96,7 @@ pub(crate) fn control_field<const M: u32>(
     }
 }
 
-// The number that at most five digits are, the first being the highest.
+// The number of at most five digits, the highest first.
 fn number_of_digits(digits: &[u8]) -> u32
     requires short { length digits.now ≤ 5 }
     ensures { result ≡ number_of_digits digits.now }

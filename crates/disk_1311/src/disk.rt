@@ -21,7 +21,7 @@ use outside_io::{ALL_SECTORS, Host, SECTOR_LENGTH};
 /// count and a core address that mean nothing here. A sector below 20,000 sets the drive's arm to its cylinder, `sector / 200`; any
 /// other turns on the address check 36, and the arm stays.
 ///
-/// Stops: 2 where the control field goes past the end of core; 4, 5 and 3 for a cell of even parity, of a bad value and of a value over
+/// Stops: 2 if the control field goes past the end of core; 4, 5 and 3 for a cell of even parity, of a bad value and of a value over
 /// 9, cell by cell; then 7 for a drive that is not there.
 /// Source: 1311 manual, seek; the checks and their order are this project's own.
 pub fn seek<const M: u32>(
@@ -49,17 +49,18 @@ pub fn seek<const M: u32>(
 /// Reads, compares or writes sectors, one after another.
 ///
 /// The control field is the 14 digits from `at`, an address, 00000 to N-1: the drive, the first sector, the count of sectors and the
-/// core address. Where there is no such sector or the drive's arm does not stand at its cylinder, the address check 36 goes on and
-/// nothing else happens. Else the sectors move one by one, 100 cells each, from the core address upwards: R stores a sector's digits, C
-/// compares them with the cells and turns on 37 where a flag or a value differs, W reads the cells and then writes the sector. The
-/// moving ends, and 38 goes on, at a sector of another cylinder. A byte of a sector that is no object character is bad: it is read as
-/// an unflagged 0 and turns on 37. A byte that the pack hasn't got is the character 0. R and C leave the pack as it is, and such a byte
-/// missing. Then a G form reads the cell behind the sectors moved, and turns on 37 where it is no group mark or
-/// lies past the end of core. Sectors that were moved before a stop stay. `Failed` only where the host's count of faults rose: a first
-/// part is done then.
+/// core address. If the first sector does not exist, or the drive's arm is not at its cylinder, the address check 36 goes on and
+/// nothing else happens. Otherwise the sectors move one by one, 100 cells each, from the core address upwards. R stores a sector's
+/// digits. C compares them with the cells, and turns on 37 if a flag or a value differs. W reads the cells and then writes the sector.
+/// At a sector of another cylinder the moving ends, and 38 goes on.
 ///
-/// Stops: those of `seek`; 2 where the core address or a sector's 100 cells go past the end of core; 4 and 5 for a bad cell that C, W or
-/// a G form reads.
+/// A byte of a sector is bad if it is not an object character: R stores an unflagged 0 for it, and R and C turn on 37. A byte that the
+/// pack lacks is read as the character 0, and stays missing: R and C leave the pack as it is. At the end a G form reads the cell after
+/// the sectors moved, and turns on 37 if the cell is not a group mark or lies past the end of core. Sectors that were moved before a
+/// stop stay. `Failed` only if the host's count of faults rose: a first part is done then.
+///
+/// Stops: the stops of `seek`; 2 if the core address or a sector's 100 cells go past the end of core; 4 and 5 for a bad cell that C, W
+/// or a G form reads.
 /// Source: 1311 manual, read, check and write disk; all checks and their order are this project's own.
 pub fn transfer<const M: u32, H: Host>(
     core: &mut Core<M>,
@@ -89,7 +90,7 @@ pub fn transfer<const M: u32, H: Host>(
     }
 }
 
-// Moves the sectors of a control field, one after another up to the end of the cylinder, and looks at the group mark behind them.
+// Moves the sectors of a control field, one after another up to the end of the cylinder, and then looks for the group mark.
 fn move_sectors<const M: u32, H: Host>(
     kind: DiskKind,
     control: Control,
@@ -124,7 +125,7 @@ fn move_sectors<const M: u32, H: Host>(
     group_check(kind, core, a, panel)
 }
 
-// Looks for a group mark at `a` where the kind of transfer asks for one. The read back check goes on where there is none.
+// Looks for a group mark at `a` if the kind of transfer asks for it. If `a` has no group mark, the read back check 37 goes on.
 fn group_check<const M: u32>(kind: DiskKind, core: &Core<M>, a: u32, panel: &mut Panel) -> DiskIo
     ensures { LooksForMark (group_check kind core.now a) panel.old panel.new result }
 {

@@ -1,8 +1,8 @@
 //! The disk drives: the arm of each that seeks a cylinder, and the sectors that are read, compared and written.
 //!
-//! A drive has 20,000 sectors of 100 digits, 200 in a cylinder; the sectors of drive 1 are the first ones of the pack, then those of drive
-//! 2 come, and so on. An instruction names a control field in core: 14 digits that give the drive, the first sector, the count of sectors
-//! and the core address. What a transfer does is defined as a list of effects, in order.
+//! A drive has 20,000 sectors of 100 digits, 200 in a cylinder. The pack begins with the sectors of drive 1; the sectors of drive 2
+//! follow, and so on. An instruction names a control field in core: 14 digits that give the drive, the first sector, the count of
+//! sectors and the core address. A transfer is defined as a list of effects, in order.
 #![tactic(auto)]
 
 ghost use Rattle.std.specs.Prelude.{◌≡◌};
@@ -20,7 +20,7 @@ pub use disk::{seek, transfer};
 /// Source: 1311 manual.
 pub const DRIVES: usize = 4;
 
-/// The transfers of sectors: read, compare or write, each with a look at a group mark behind the sectors moved or without.
+/// The transfers of sectors: read, compare or write, each with or without a look at a group mark after the sectors moved.
 ///
 /// Source: 1311 manual, read, check and write disk.
 #[derive(Clone, Copy, Debug, PartialEq, Eq)]
@@ -55,7 +55,7 @@ impl DiskKind {
 /// Source: this project's own.
 #[derive(Clone, Copy, Debug, PartialEq, Eq)]
 pub enum DiskIo {
-    /// All of it was done, or an indicator says what was not.
+    /// All of it was done, or an indicator shows what was not done.
     Done,
     /// The instruction stopped. What was done before stays.
     Stop(Stop),

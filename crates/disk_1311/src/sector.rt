@@ -21,7 +21,7 @@ use outside_io::{Drive, Host, SECTOR_LENGTH};
 // A sector's digits are read, compared and written by ten words.
 const TENS: usize = 10;
 
-// What a bad byte is read as.
+// The digit that is stored for a bad byte.
 const ZERO: Digit = Digit {
     flag: false,
     value: 0,
@@ -76,7 +76,7 @@ pub(crate) fn move_sector<const M: u32, H: Host>(
     }
 }
 
-// Stores a sector's digits from `a` upwards. A bad byte is a zero, and turns on the read back check.
+// Stores a sector's digits from `a` upwards. A bad byte is stored as a zero, and turns on the read back check.
 fn read_sector<const M: u32>(
     core: &mut Core<M>,
     a: u32,
@@ -94,7 +94,7 @@ fn read_sector<const M: u32>(
     }
 }
 
-// Stores the digits of ten bytes from cell number `j` of word `i` upwards, by one word where all ten are good.
+// Stores the digits of ten bytes from cell number `j` of word `i` upwards, as one word if all ten are good.
 #[inline]
 fn read_ten<const M: u32>(core: &mut Core<M>, i: u32, j: u32, bytes: &[u8], panel: &mut Panel)
     requires place { j < 10 }
@@ -131,7 +131,7 @@ fn read_bytes<const M: u32>(core: &mut Core<M>, a: u32, bytes: &[u8], panel: &mu
     }
 }
 
-// Compares a sector with the cells from `a` upwards. The read back check goes on where a byte is bad or not the cell's.
+// Compares a sector with the cells from `a` upwards. The read back check goes on if a byte is bad or differs from its cell.
 fn compare_sector<const M: u32>(
     core: &Core<M>,
     a: u32,
@@ -152,7 +152,7 @@ fn compare_sector<const M: u32>(
     Ok(())
 }
 
-// Compares ten bytes with the cells from cell number `j` of word `i` upwards, by one word where all ten are the cells'.
+// Compares ten bytes with the cells from cell number `j` of word `i` upwards, as one word if all ten are equal.
 #[inline]
 fn compare_ten<const M: u32>(
     core: &Core<M>,
@@ -208,7 +208,7 @@ fn differs(digit: Digit, byte: u8) -> bool
     object_digit(byte) != Some(digit)
 }
 
-// Puts the characters of the cells from `a` upwards into the text, by one word where ten are good.
+// Puts the characters of the cells from `a` upwards into the text, ten as one word if all ten are good.
 fn sector_text<const M: u32>(
     core: &Core<M>,
     a: u32,

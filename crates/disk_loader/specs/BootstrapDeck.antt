@@ -1,4 +1,4 @@
--- What the cards of a program on disk are, and what they do.
+-- The cards of a program on disk, and their effect.
 use Rattle.std.specs.Prelude.{ℕ, ◌≡◌, List, length, map}
 use Rattle.card_code.specs.declared.Card.{Card}
 use Rattle.sps_pass_two.specs.declared.assembled.Assembled.{Assembled}
@@ -11,11 +11,11 @@ use Rattle.disk_loader.specs.DiskLoads.{DiskLoads}
 abbrev pub AreBootstrapOf : Assembled → List Card → Type 0
 AreBootstrapOf program cards = map card_bytes cards ≡ bootstrap program.image.pieces program.start
 
--- how many steps a deck of so many cards takes: four for each card but the last, and one for that
+-- how many steps a deck with this number of cards takes: four for each card except the last, and one for that card
 abbrev pub boot_steps : ℕ → ℕ
 boot_steps cards = self_loading_steps cards
 
--- the cards load the program's image from its sectors and enter its start, in so many steps
+-- the cards load the program's image from its sectors and enter its start, in `boot_steps` steps
 abbrev pub LoadFromDisk : Assembled → List Card → Type 0
 LoadFromDisk program cards =
     DiskLoads (map card_bytes cards) program.image.pieces program.start (boot_steps (length cards))

@@ -1,4 +1,4 @@
--- What the stretches of an image are.
+-- The stretches of an image are its cover.
 use Rattle.std.specs.Prelude.{ℕ, ◌≡◌, ◌≢◌, ◌+◌, ◌<◌, ◌≤◌, ◌⊎◌, ◌&&◌, ◌||◌, nat_le, nat_lt, Bool, true, false, List, [], ◌∷◌}
 use Rattle.disk_1311.specs.Disk.{cylinder_of}
 use Rattle.sps_pass_two.specs.Image.{DigitRun}
@@ -19,7 +19,7 @@ abbrev pub AreStretches : List DigitRun → ℕ → ℕ → List Stretch → Typ
 AreStretches image first past [] = Unit {0}
 AreStretches image first past (s ∷ ss) = IsStretch image first past s × AreStretches image first past ss
 
--- a hundred is one of a stretch's, or of some stretches'
+-- a hundred belongs to a stretch, or to one of some stretches
 abbrev pub in_stretch : Stretch → ℕ → Bool
 in_stretch s k = nat_le s.from k && nat_lt k (s.from + s.count)
 
@@ -27,7 +27,7 @@ abbrev pub in_any : List Stretch → ℕ → Bool
 in_any [] k = false
 in_any (s ∷ ss) k = in_stretch s k || in_any ss k
 
--- a stretch ends before the next one: a hundred that isn't needed stands between them, or a cylinder begins there
+-- a stretch ends before the next one: a hundred that isn't needed lies between them, or a cylinder begins there
 abbrev pub ArePart : Stretch → Stretch → Type 0
 ArePart s t = (s.from + s.count < t.from) ⊎ ((s.from + s.count ≡ t.from) × (cylinder_of s.from ≢ cylinder_of t.from))
 

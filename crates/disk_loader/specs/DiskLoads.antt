@@ -1,4 +1,4 @@
--- A deck that loads a program from disk: what the Load key and so many steps make of any core that the program fits in.
+-- A deck that loads a program from disk: the effect of the Load key and k steps on any core that the program fits in.
 use Rattle.std.specs.Prelude.{ℕ, true, ◌≡◌, ◌<◌, ◌≤◌, List, [], ◌∷◌, ◌++◌, length, map, slice_set}
 use Rattle.std.specs.List.{All}
 use Rattle.digit_core.specs.Size.{IsSize, size}
@@ -24,13 +24,13 @@ use Rattle.disk_loader.specs.DiskOverlay.{disk_overlay}
 abbrev pub HasSectors : List DigitRun → (ℕ → List ℕ) → Type 0
 HasSectors image sectors = (h : ℕ) → h < HUNDREDS → is_needed image h ≡ true → pack_sector_text sectors (host_sector 1 h) ≡ hundred_text image h
 
--- the cylinder of the last of some stretches; of none, another
+-- the cylinder of the last stretch, or another cylinder if there is no stretch
 abbrev pub last_cylinder : ℕ → List Stretch → ℕ
 last_cylinder other [] = other
 last_cylinder other (s ∷ ss) = last_cylinder (cylinder_of s.from) ss
 
 -- a state that goes on at the start of a program: its hundreds are laid over a core, IR is at the start, the rest is in the hopper, the
--- last-card indicator is on exactly where that is empty, the arm of drive 1 stands at the last stretch, and all else is as it was
+-- last-card indicator is on exactly if the rest is empty, the arm of drive 1 is at the last stretch, and all else is as it was
 abbrev pub state_from_disk : State → List DigitRun → ℕ → List ℕ → List Entry → State
 state_from_disk s image start core rest =
     record s {
@@ -49,7 +49,7 @@ pub record DiskLoadsOver (deck : List (List ℕ)) (image : List DigitRun) (start
   pub takes : events_of_load k s ≡ deck_taken deck
 
 -- THE PROMISE. Over the sectors of an image a deck loads it and enters a start in k steps: over every core, good or not, of each size
--- above all declared addresses and the start, whatever else the state is, and with any rest of the hopper behind the deck
+-- above all declared addresses and the start, whatever else the state is, and with any rest of the hopper after the deck
 abbrev pub DiskLoads : List (List ℕ) → List DigitRun → ℕ → ℕ → Type 0
 DiskLoads deck image start k =
     (m : ℕ) (s : State) (rest : List Entry) → IsSize m → length s.core ≡ size m → length s.arms ≡ DRIVES

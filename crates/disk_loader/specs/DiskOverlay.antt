@@ -1,4 +1,4 @@
--- The core into which a program was loaded from disk: its needed hundreds, over the transfer card, over what was there before.
+-- The core after a program was loaded from disk: its needed hundreds, over the transfer card, over the earlier core.
 use Rattle.std.specs.Prelude.{ℕ, nat_lt, List, length, map, slice_index_or, if◌then◌else◌}
 use Rattle.std.specs.List.{range_with_len}
 use Rattle.digit_core.specs.{cell, unflagged_digit}

@@ -1,4 +1,4 @@
--- The hundreds of core that a program needs from the disk, and what stands in them.
+-- The hundreds of core that a program needs from the disk, and their digits.
 use Rattle.std.specs.Prelude.{ℕ, Bool, ◌*◌, ◌/◌, ◌&&◌, ◌||◌, nat_le, nat_lt, List, map, is_some, if◌then◌else◌, Option, Some, None}
 use Rattle.std.specs.List.{list_any, range_with_len}
 use Rattle.digit_core.specs.declared.Digit.{Digit}
@@ -10,7 +10,7 @@ use Rattle.sps_pass_two.specs.Image.{DigitRun, declared_digit, digit_at}
 abbrev pub hundred_of : ℕ → ℕ
 hundred_of a = a / 100
 
--- the standard tables stand in the hundreds 1, 2 and 3
+-- the hundred belongs to the standard tables: it is 1, 2 or 3
 abbrev pub holds_tables : ℕ → Bool
 holds_tables h = nat_le 1 h && nat_le h 3
 
@@ -18,7 +18,7 @@ holds_tables h = nat_le 1 h && nat_le h 3
 unfoldable pub holds_declared : List DigitRun → ℕ → Bool
 holds_declared image h = list_any (λ a. is_some (declared_digit image a)) (range_with_len (100 * h) 100)
 
--- a hundred that is loaded
+-- the program needs the hundred
 abbrev pub is_needed : List DigitRun → ℕ → Bool
 is_needed image h = holds_tables h || holds_declared image h
 
@@ -27,7 +27,7 @@ abbrev pub digit_or : Option Digit → Digit → Digit
 digit_or (Some d) other = d
 digit_or None other = other
 
--- what stands in a needed hundred where nothing is declared: the digit of the standard tables, or an unflagged zero
+-- the digit beneath a program at an address of a needed hundred: the digit of the standard tables, or else an unflagged zero
 abbrev pub digit_beneath : ℕ → Digit
 digit_beneath a = if nat_le 100 a && nat_lt a 400 then standard_digit a else unflagged_digit 0
 
@@ -35,7 +35,7 @@ digit_beneath a = if nat_le 100 a && nat_lt a 400 then standard_digit a else unf
 unfoldable pub digit_on_disk : List DigitRun → ℕ → Digit
 digit_on_disk image a = digit_or (declared_digit image a) (digit_beneath a)
 
--- those of n addresses from a on
+-- the digits that are loaded to n addresses from a on
 abbrev pub loaded_digits : List DigitRun → ℕ → ℕ → List Digit
 loaded_digits image a n = map (digit_on_disk image) (range_with_len a n)
 
@@ -43,15 +43,15 @@ loaded_digits image a n = map (digit_on_disk image) (range_with_len a n)
 abbrev pub hundred_text : List DigitRun → ℕ → List ℕ
 hundred_text image h = map object_char (loaded_digits image (100 * h) 100)
 
--- a run has an address among the hundred from one on
+-- a run has an address among the 100 from `from` on
 unfoldable pub reaches : DigitRun → ℕ → Bool
 reaches r from = list_any (λ a. is_some (digit_at r a)) (range_with_len from 100)
 
--- the character of a digit, or, where there is none, another one
+-- the character of a digit, or another character if there is no digit
 abbrev pub char_over : Option Digit → ℕ → ℕ
 char_over (Some d) other = object_char d
 char_over None other = other
 
--- the text of a hundred's sector, where the hundred is needed
+-- the text of a hundred's sector, if the program needs the hundred
 abbrev pub sector_text : List DigitRun → ℕ → Option (List ℕ)
 sector_text image h = if is_needed image h then Some (hundred_text image h) else None

@@ -1,4 +1,4 @@
--- Needed hundreds that follow one another on one cylinder: what one card loads.
+-- Needed hundreds that follow one another on one cylinder; one card loads them.
 use Rattle.std.specs.Prelude.{ℕ, zero, suc, Bool, ◌+◌, ◌==◌, ◌&&◌, nat_lt, List, [], ◌∷◌, if◌then◌else◌}
 use Rattle.disk_1311.specs.Disk.{cylinder_of}
 use Rattle.sps_pass_two.specs.Image.{DigitRun}
@@ -9,7 +9,7 @@ use Rattle.disk_loader.specs.Hundreds.{is_needed}
 abbrev pub one_hundred : ℕ → Stretch
 one_hundred h = record { from = h; count = 1 }
 
--- the hundred stands just before a stretch, and its sector on the same cylinder
+-- the hundred is just before a stretch, and its sector is on the same cylinder
 abbrev pub joins : ℕ → Stretch → Bool
 joins h s = (s.from == h + 1) && (cylinder_of s.from == cylinder_of h)
 
@@ -19,16 +19,16 @@ onto_stretch h [] = one_hundred h ∷ []
 onto_stretch h (s ∷ ss) =
     if joins h s then record { from = h; count = suc s.count } ∷ ss else one_hundred h ∷ s ∷ ss
 
--- the stretches of so many hundreds from h on, rising
+-- the stretches of n hundreds from h on, rising
 unfoldable pub stretches_from : List DigitRun → ℕ → ℕ → List Stretch
 stretches_from image h zero = []
 stretches_from image h (suc n) =
     if is_needed image h then onto_stretch h (stretches_from image (h + 1) n) else stretches_from image (h + 1) n
 
--- those of the largest core
+-- the stretches of the largest core
 abbrev pub stretches : List DigitRun → List Stretch
 stretches image = stretches_from image 0 HUNDREDS
 
--- a hundred goes on a stretch that has one, and ends before it, where its sector stands on the same cylinder
+-- the next hundred belongs to a stretch: the stretch has a hundred, and both are on one cylinder
 abbrev pub extends_stretch : Stretch → ℕ → Bool
 extends_stretch s h = nat_lt 0 s.count && (cylinder_of s.from == cylinder_of h)

@@ -13,17 +13,17 @@ pub record SectorText : Type 0 where
   pub sector : ℕ
   pub text : List ℕ
 
--- the sector of a hundred stands on drive 1
+-- the sector of a hundred, on drive 1
 abbrev pub hundred_sector : List DigitRun → ℕ → SectorText
 hundred_sector image h = record { sector = host_sector 1 h; text = hundred_text image h }
 
--- the sectors of the needed hundreds among so many from h on, rising
+-- the sectors of the needed hundreds among n hundreds from h on, rising
 unfoldable pub needed_sectors : List DigitRun → ℕ → ℕ → List SectorText
 needed_sectors image h zero = []
 needed_sectors image h (suc n) =
     if is_needed image h then hundred_sector image h ∷ needed_sectors image (h + 1) n else needed_sectors image (h + 1) n
 
--- those of the largest core
+-- the sectors of the needed hundreds of the largest core
 abbrev pub image_sectors : List DigitRun → List SectorText
 image_sectors image = needed_sectors image 0 HUNDREDS
 
@@ -32,17 +32,17 @@ abbrev pub sectors_after : List SectorText → (ℕ → List ℕ) → ℕ → Li
 sectors_after [] sectors = sectors
 sectors_after (w ∷ ws) sectors = sectors_after ws (with_sector w.sector w.text sectors)
 
--- the world then: its sectors alone change
+-- the world after these writes: only its sectors change
 abbrev pub world_after : List SectorText → World → World
 world_after ws w = record w { sectors = option_map (sectors_after ws) w.sectors }
 
--- the host failed after some first of them
+-- the host failed after it wrote a first part of the sectors
 pub record WritesFirst (ws : List SectorText) (old new : Seen) : Type 0 where
   pub done : ℕ
   pub goes : Goes old new (world_after (take done ws) old.world)
   pub rose : Rose old.faults new.faults
 
--- what the writing of an image's sectors does, by its answer
+-- the effect of writing an image's sectors, by the answer
 abbrev pub WritesSectors : List SectorText → Seen → Seen → Sent → Type 0
 WritesSectors ws old new sent.Done = Goes old new (world_after ws old.world)
 WritesSectors ws old new sent.Failed = WritesFirst ws old new

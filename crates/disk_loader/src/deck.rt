@@ -24,15 +24,15 @@ use std::alloc::{AllocError, Global};
 // The opcode of a card's first instruction.
 const CONTROL: u8 = 34;
 
-// Where a card's control field stands.
+// The address of a card's control field.
 const FIELD: u32 = 48;
 
-// The Q addresses of its instructions on device 07: a seek, and a reading of sectors.
+// The Q addresses of a card's instructions on device 07: seek, and read sectors.
 const SEEK: u32 = 701;
 
 const READ_SECTORS: u32 = 702;
 
-// Hundreds that follow one another on one cylinder: so many from one on.
+// Hundreds that follow one another on one cylinder: `count` of them, from `from` on.
 #[derive(Clone, Copy)]
 pub(crate) struct Stretch {
     pub(crate) from: u32,
@@ -41,10 +41,11 @@ pub(crate) struct Stretch {
 
 /// Punches the bootstrap deck of a program, which loads it from disk.
 ///
-/// Put the pack with the program's sectors on drive 1 and the deck in the hopper, data cards behind it if there are any, and press the
-/// Load key. After the deck's steps, four for each card but the last and one for that, the machine runs at the program's start. In core
-/// stand the hundreds that the program needs, with its digits over the standard tables over unflagged zeros, and the last card in 00000
-/// to 00079; every other cell is as it was. Outside, each card of the deck is taken, and nothing else is done. The error is want of memory.
+/// Put the pack with the program's sectors on drive 1 and the deck in the hopper, with any data cards after it, and press the
+/// Load key. After the deck's steps, four for each card except the last and one for the last, the machine runs at the program's
+/// start. Core then has the hundreds that the program needs, with its digits over the standard tables over unflagged zeros. It
+/// has the last card in 00000 to 00079; every other cell is as it was. The machine takes each card of the deck and does nothing
+/// else outside. The error is a lack of memory.
 pub fn bootstrap(alloc: Global, assembled: &Assembled) -> Result<Vec<Card>, AllocError>
     ensures is { IfOk result (λ cards. AreBootstrapOf assembled.now cards.items) }
     ensures most { IfOk result (λ cards. length cards.items ≤ HUNDREDS + 1) }
@@ -70,22 +71,22 @@ pub fn bootstrap(alloc: Global, assembled: &Assembled) -> Result<Vec<Card>, Allo
     Ok(cards)
 }
 
-/// The law of stretches: those of an image are its needed hundreds, rising, each a list of hundreds that follow one another on one
-/// cylinder, and none could be longer.
+/// The law of stretches: the stretches of an image are its needed hundreds, rising. Each is a list of hundreds that follow one
+/// another on one cylinder, and none could be longer.
 ///
 /// The call does nothing; the law is its contract.
 pub fn stretch_law()
     ensures { StretchLaw }
 {}
 
-// Whether the hundred `h`, the next one, is of the same stretch.
+// Whether hundred `h`, the next one, belongs to the stretch.
 fn extends_stretch(stretch: Stretch, h: u32) -> bool
     ensures { result ≡ extends_stretch stretch h }
 {
     stretch.count > 0 && stretch.from / CYLINDER_SECTORS == h / CYLINDER_SECTORS
 }
 
-// Adds the card of a stretch, where it has a hundred.
+// Adds the card of a stretch, if the stretch has a hundred.
 fn close(cards: &mut Vec<Card>, stretch: Stretch) -> Result<(), AllocError>
     requires from { stretch.from < HUNDREDS }
     requires count { stretch.count < 1000 }
@@ -97,7 +98,7 @@ fn close(cards: &mut Vec<Card>, stretch: Stretch) -> Result<(), AllocError>
     Ok(())
 }
 
-// The card of a stretch: the arm of drive 1 seeks, the sectors are read, and the next card is read over this one.
+// The card of a stretch: it makes the arm of drive 1 seek, reads the sectors, and reads the next card over this one.
 fn stretch_card(stretch: Stretch) -> Card
     requires from { stretch.from < HUNDREDS }
     requires count { stretch.count < 1000 }

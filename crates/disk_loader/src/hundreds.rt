@@ -1,4 +1,4 @@
-// What the hundreds of core hold.
+// The digits of the hundreds of core.
 ghost use Rattle.std.specs.Prelude.{◌≡◌, ◌+◌, ◌*◌, ◌<◌, ◌≤◌, ℕ, slice_index, map};
 ghost use Rattle.std.specs.List.{range_with_len};
 ghost use Rattle.digit_core.specs.{IsGood};
@@ -16,10 +16,10 @@ use sps_pass_two::{Assembled, Piece};
 // The hundreds of the largest core.
 pub(crate) const HUNDREDS: u32 = 600;
 
-/// The text of the sector of hundred `h`, the addresses `100h` to `100h + 99`, where the program needs it: 100 object characters.
+/// The text of the sector of hundred `h`, the addresses `100h` to `100h + 99`, if the program needs it: 100 object characters.
 ///
-/// `None` exactly where no digit is declared there and the standard tables don't stand there. A needed hundred has, where no digit is
-/// declared, the standard tables' digits, and elsewhere unflagged zeros. `h` is below 600.
+/// `None` exactly if the hundred has no declared digit and does not belong to the standard tables. At an address without a
+/// declared digit, a needed hundred has the standard tables' digit, or else an unflagged zero. `h` is below 600.
 /// Source: this project's own.
 pub fn sector_text(assembled: &Assembled, h: u32) -> Option<[u8; 100]>
     requires { h < HUNDREDS }
@@ -49,14 +49,14 @@ pub(crate) fn is_needed(assembled: &Assembled, h: u32) -> bool
     needed
 }
 
-// Whether the standard tables stand in hundred `h`.
+// Whether hundred `h` belongs to the standard tables.
 fn holds_tables(h: u32) -> bool
     ensures { result ≡ holds_tables h }
 {
     h >= 1 && h <= 3
 }
 
-// The characters of what stands beneath a program in the hundred that begins at `from`.
+// The characters beneath a program in the hundred that begins at `from`.
 fn beneath(from: u32) -> [u8; 100]
     requires { from < MOST_POSITIONS }
     ensures { result ≡ map (λ a. object_char (digit_beneath a)) (range_with_len from 100) }
@@ -95,7 +95,7 @@ fn reaches(piece: &Piece, from: u32) -> bool
     first < past
 }
 
-// Lays the characters of a piece over those of the hundred that begins at `from`. Whether the piece has an address there.
+// Lays the characters of a piece over the hundred that begins at `from`. The answer is whether the piece has an address there.
 fn lay(piece: &Piece, from: u32, text: &mut [u8; 100]) -> bool
     requires from { from < MOST_POSITIONS }
     requires piece { IsPiece (run_of piece.now) }

@@ -7,7 +7,7 @@ use crate::hundreds::{HUNDREDS, is_needed, sector_text};
 use outside_io::{Drive, Host, Sent};
 use sps_pass_two::Assembled;
 
-/// How many sectors a program needs: its hundreds, those of the standard tables among them.
+/// How many sectors a program needs: one for each hundred that it needs, the hundreds of the standard tables included.
 pub fn sector_count(assembled: &Assembled) -> u32
     ensures { result ≡ length (image_sectors assembled.now.image.pieces) }
 {
@@ -22,8 +22,8 @@ pub fn sector_count(assembled: &Assembled) -> u32
 
 /// Writes the sectors of the hundreds that a program needs to drive 1, rising.
 ///
-/// `Done`: they are written, and all other sectors are as before. `Failed` only where the host's count of faults rose: some first of them
-/// were written.
+/// `Done`: they are written, and all other sectors are as before. `Failed` only if the host's count of faults rose: a first part
+/// of the sectors was written, which may be empty or all.
 pub fn write_sectors<H: Host>(assembled: &Assembled, host: &mut H) -> Sent
     ensures { WritesSectors (image_sectors assembled.now.image.pieces) (H.seen host.old) (H.seen host.new) result }
 {

@@ -1,4 +1,4 @@
--- Digits with zones: a flag that moves, and numbers between the form of one digit a position and that of two.
+-- Moves of flags, and conversions of numbers between one digit per position and digits with zones.
 use Rattle.std.specs.Prelude.{ℕ, zero, suc, Bool, true, false, ◌+◌, ◌-◌, ◌*◌, ◌/◌, ◌==◌, List, if◌then◌else◌, Ok, Err, ⊤}
 use Rattle.digit_core.specs.Cell.{unflagged_digit, store, with_flag}
 use Rattle.addr_indirect.specs.declared.Stop.{Stop}
@@ -16,15 +16,15 @@ NUMBER_ZONE = 7
 abbrev pub NEGATIVE_ZONE : ℕ
 NEGATIVE_ZONE = 5
 
--- MF: the digit at P gets the flag of the one at Q, which loses it
+-- MF: the digit at P gets the flag of the digit at Q, which loses it
 abbrev pub move_flag : List ℕ → ℕ → ℕ → Trace Stored ⊤ Stop
 move_flag core p q = do
   from ← read_at core q
   to ← read_at core p
   stores p (with_flag from.flag to) (stores q (with_flag false from) (ends (Ok tt)))
 
--- the cycles of a strip behind the units, where so many pairs of P and so many positions of Q are left: a digit of P
--- takes the place of one of Q and gets its flag; a flagged one is the last
+-- the cycles of a strip after the units, with given numbers of pairs of P and positions of Q left: a digit of P
+-- replaces a digit of Q and gets its flag; a flagged digit is the last
 unfoldable pub strip_cycles : List ℕ → ℕ → ℕ → Trace Stored ⊤ Stop
 strip_cycles core zero q = ends (Err Address)
 strip_cycles core (suc pairs) zero = ends (Err Address)
@@ -34,7 +34,7 @@ strip_cycles core (suc pairs) (suc q) = do
   stores q (with_flag to.flag from)
       (if to.flag then ends (Ok tt) else strip_cycles (store core q (with_flag to.flag from)) pairs q)
 
--- TNS: the pairs at P, whose units are odd, come to the field at Q without their zones; the zone of the units is the sign
+-- TNS: the pairs at P, an odd address, are stored in the field at Q without their zones; the zone of the units gives the sign
 abbrev pub strip : List ℕ → ℕ → ℕ → Trace Stored ⊤ Stop
 strip core p q = do
   zone ← read_at core (p - 1)
@@ -43,17 +43,17 @@ strip core p q = do
   let units = with_flag (zone.value == NEGATIVE_ZONE) from in
       stores q units (strip_cycles (store core q units) (p / 2) q)
 
--- a core in which a digit is stored above a place, and then its zone there
+-- core after a digit is stored directly above a place, and then its zone at this place
 abbrev pub core_with_pair : List ℕ → ℕ → ℕ → ℕ → List ℕ
 core_with_pair core at zone value = store (store core (at + 1) (unflagged_digit value)) at (unflagged_digit zone)
 
--- these two stores, and then the rest over the core that they leave
+-- these two stores, and then the rest, which gets the core after them
 abbrev pub pair_first : {A E : Type 0} → List ℕ → ℕ → ℕ → ℕ → (List ℕ → Trace Stored A E) → Trace Stored A E
 pair_first core at zone value rest =
     stores (at + 1) (unflagged_digit value) (stores at (unflagged_digit zone) (rest (core_with_pair core at zone value)))
 
--- the cycles of a fill behind the units, likewise: a digit of Q without its flag and the zone of numbers below it take
--- the place of a pair of P; a flagged one is the last
+-- the cycles of a fill after the units, likewise: a digit of Q without its flag, and the zone of numbers below it,
+-- replace a pair of P; a flagged digit is the last
 unfoldable pub fill_cycles : List ℕ → ℕ → ℕ → Trace Stored ⊤ Stop
 fill_cycles core zero q = ends (Err Address)
 fill_cycles core (suc pairs) zero = ends (Err Address)
@@ -61,19 +61,19 @@ fill_cycles core (suc pairs) (suc q) = do
   d ← read_at core q
   pair_first core (2 * pairs) NUMBER_ZONE d.value (λ new. if d.flag then ends (Ok tt) else fill_cycles new pairs q)
 
--- TNF: the field at Q comes to the pairs at P, whose units are odd; the zone of the units tells the sign
+-- TNF: the field at Q is stored as pairs at P, an odd address; the zone of the units gives the sign
 abbrev pub fill : List ℕ → ℕ → ℕ → Trace Stored ⊤ Stop
 fill core p q = do
   d ← read_at core q
   pair_first core (p - 1) (if d.flag then NEGATIVE_ZONE else NUMBER_ZONE) d.value (λ new. fill_cycles new (p / 2) q)
 
--- what each operation of the special features does over its operands
+-- the effects of each operation of the special features on its operands
 abbrev pub feature_of : FeatureOp → List ℕ → ℕ → ℕ → Trace Stored ⊤ Stop
 feature_of Mf core p q = move_flag core p q
 feature_of Tns core p q = strip core p q
 feature_of Tnf core p q = fill core p q
 
--- P's units are those of a pair: it is odd
+-- whether P has to be the units of a pair, an odd address
 abbrev pub takes_pairs : FeatureOp → Bool
 takes_pairs Mf = false
 takes_pairs Tns = true

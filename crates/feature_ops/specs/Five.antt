@@ -1,4 +1,4 @@
--- Digits five and ten at a time: the words that hold them, and what some cycles leave.
+-- Digits five and ten at a time: the words that hold them, and the cells that some cycles leave.
 use Rattle.std.specs.Prelude.{ℕ, ◌≡◌, ◌+◌, ◌-◌, ◌*◌, ◌/◌, ◌<◌, ◌≤◌, ◌⊎◌, true, false, List, slice_index, bit_xor, ◌^◌}
 use Rattle.digit_core.specs.declared.Digit.{Digit}
 use Rattle.digit_core.specs.Cell.{cell, unflagged_digit, has_flag, value_in}
@@ -8,11 +8,11 @@ use Rattle.feature_ops.specs.Feature.{NUMBER_ZONE}
 use Rattle.digit_core.specs.Within.{AreGood}
 use Rattle.feature_ops.specs.declared.fives.Turn.{Turn}
 
--- the lowest five cells of a word are the odd ones of another
+-- the lowest five cells of a word are the odd cells of another word
 abbrev pub AreOdd : ℕ → ℕ → Type 0
 AreOdd five w = (j : ℕ) → j < 5 → six five j ≡ six w (2 * j + 1)
 
--- they are the odd ones of ten, whose even ones are zones of numbers
+-- the lowest five cells of a word are the odd cells of `ten`, whose even cells are zones of numbers
 pub record AreZoned (ten five : ℕ) : Type 0 where
   pub zones : (j : ℕ) → j < 5 → six ten (2 * j) ≡ cell (unflagged_digit NUMBER_ZONE)
   pub digits : (j : ℕ) → j < 5 → six ten (2 * j + 1) ≡ six five j
@@ -21,7 +21,7 @@ pub record AreZoned (ten five : ℕ) : Type 0 where
 abbrev pub IsPlain : ℕ → Type 0
 IsPlain c = (is_bad_cell c ≡ false) × (has_flag c ≡ false)
 
--- one that holds a flagged digit, and the same digit with a flag
+-- a cell that holds a flagged digit, and a cell's value as a flagged digit
 abbrev pub IsFlagged : ℕ → Type 0
 IsFlagged c = (is_bad_cell c ≡ false) × (has_flag c ≡ true)
 
@@ -36,31 +36,31 @@ FiveAreGood five = (j : ℕ) → j < 5 → is_bad_cell (six five j) ≡ false
 abbrev pub AreUnflagged : ℕ → Type 0
 AreUnflagged w = (j : ℕ) → j < 9 → has_flag (six w j) ≡ false
 
--- the highest n of so many pairs, and of so many positions, share no cell
+-- the highest n of the pairs, and of the positions, that are left share no cell
 pub record ArePairsApart (pairs left n : ℕ) : Type 0 where
   pub p : n ≤ pairs
   pub q : n ≤ left
   pub apart : (left + 2 * n ≤ 2 * pairs) ⊎ (2 * pairs + n ≤ left)
 
--- the highest five of so many pairs, and of so many positions, share no cell, nor do these and the five pairs above
+-- the highest five positions left share no cell with the highest five pairs left, nor with the five pairs above these
 pub record AreStillApart (pairs left : ℕ) : Type 0 where
   pub p : 5 ≤ pairs
   pub q : 5 ≤ left
   pub apart : (left + 10 ≤ 2 * pairs) ⊎ (2 * pairs + 15 ≤ left)
 
--- n cells are those that the next n cycles of a strip leave at Q
+-- the next n cycles of a strip leave these n cells at Q
 pub record AreStripped (core : List ℕ) (pairs left n cells : ℕ) : Type 0 where
   pub olds : (j : ℕ) → j < n → IsPlain (slice_index core (left - n + j))
   pub digits : (j : ℕ) → j < n → six cells j ≡ slice_index core (2 * (pairs - n + j) + 1)
   pub unflagged : (j : ℕ) → j < n → IsPlain (six cells j)
 
--- twice n cells are those that the next n cycles of a fill leave at P
+-- the next n cycles of a fill leave these 2n cells at P
 pub record AreFilled (core : List ℕ) (pairs left n cells : ℕ) : Type 0 where
   pub olds : (j : ℕ) → j < n → IsPlain (slice_index core (left - n + j))
   pub digits : (j : ℕ) → j < n → six cells (2 * j + 1) ≡ slice_index core (left - n + j)
   pub zones : (j : ℕ) → j < n → six cells (2 * j) ≡ cell (unflagged_digit NUMBER_ZONE)
 
--- the cells of a strip's last n cycles at Q: the field ends with the last of n digits, and only this has a flag
+-- a strip's last n cycles leave these n cells at Q: the field ends with the last of n digits, the only flagged one
 pub record AreLastStripped (core : List ℕ) (pairs left n cells : ℕ) : Type 0 where
   pub goes_on : (j : ℕ) → 0 < j → j < n → IsPlain (slice_index core (left - n + j))
   pub ends : IsFlagged (slice_index core (left - n))
@@ -68,7 +68,7 @@ pub record AreLastStripped (core : List ℕ) (pairs left n cells : ℕ) : Type 0
   pub lowest : six cells 0 ≡ cell (flagged_digit (slice_index core (2 * (pairs - n) + 1)))
   pub unflagged : (j : ℕ) → j < n → IsPlain (slice_index core (2 * (pairs - n + j) + 1))
 
--- those of a fill's last n cycles at P, likewise
+-- a fill's last n cycles leave these 2n cells at P, likewise
 pub record AreLastFilled (core : List ℕ) (pairs left n cells : ℕ) : Type 0 where
   pub goes_on : (j : ℕ) → 0 < j → j < n → IsPlain (slice_index core (left - n + j))
   pub ends : IsFlagged (slice_index core (left - n))
@@ -76,7 +76,7 @@ pub record AreLastFilled (core : List ℕ) (pairs left n cells : ℕ) : Type 0 w
   pub lowest : six cells 1 ≡ cell (unflagged_digit (value_in (slice_index core (left - n))))
   pub zones : (j : ℕ) → j < n → six cells (2 * j) ≡ cell (unflagged_digit NUMBER_ZONE)
 
--- a turn of a strip has the cells that its next cycles leave, or those of its last ones
+-- a pass of a strip has the cells that the next cycles leave, or that the last cycles leave
 pub record Strips (core : List ℕ) (pairs left : ℕ) (turn : Turn) : Type 0 where
   pub apart : ArePairsApart pairs left turn.count
   pub some : 1 ≤ turn.count
@@ -84,7 +84,7 @@ pub record Strips (core : List ℕ) (pairs left : ℕ) (turn : Turn) : Type 0 wh
   pub on : turn.ends ≡ false → AreStripped core pairs left turn.count turn.cells
   pub end : turn.ends ≡ true → AreLastStripped core pairs left turn.count turn.cells
 
--- and a turn of a fill, likewise
+-- a pass of a fill, likewise
 pub record Fills (core : List ℕ) (pairs left : ℕ) (turn : Turn) : Type 0 where
   pub apart : ArePairsApart pairs left turn.count
   pub some : 1 ≤ turn.count
@@ -100,13 +100,13 @@ pub record IsNextTen (core : List ℕ) (pairs left ten : ℕ) : Type 0 where
   pub good : AreGood ten
   pub word : ten < 2 ^ 60
 
--- a field ends m cells below the top of the lowest n of a word
+-- among the lowest n cells of a word, the m-th from the top is the first flagged cell
 pub record EndsAmong (n olds m : ℕ) : Type 0 where
   pub goes_on : (j : ℕ) → n - m < j → j < n → has_flag (six olds j) ≡ false
   pub flag : has_flag (six olds (n - m)) ≡ true
 
--- a turn of a strip takes the highest of the lowest n cells of a word of digits: those up to the field's end where it is among the lowest n
--- of olds
+-- a pass of a strip takes the highest of the lowest n cells of a word of digits, down to the field's end if this is among the lowest n
+-- cells of `olds`
 pub record StripsOf (n olds digits : ℕ) (turn : Turn) : Type 0 where
   pub some : 1 ≤ turn.count
   pub most : turn.count ≤ n
@@ -115,7 +115,7 @@ pub record StripsOf (n olds digits : ℕ) (turn : Turn) : Type 0 where
   pub lowest : turn.ends ≡ true → six turn.cells 0 ≡ bit_xor (six digits (n - turn.count)) 48
   pub others : turn.ends ≡ true → (j : ℕ) → 0 < j → six turn.cells j ≡ six digits (n - turn.count + j)
 
--- a turn of a fill takes the highest of five good cells: so many, or those up to the field's end where it is among them
+-- a pass of a fill takes the highest of five good cells: down to the field's end if this is among them, else `whole` cells
 pub record FillsOf (five whole : ℕ) (turn : Turn) : Type 0 where
   pub some : 1 ≤ turn.count
   pub most : turn.count ≤ 5

@@ -8,7 +8,7 @@ use digit_core::{Core, are_good, field_in};
 // The cells of five zones of numbers, each with room for its digit above it.
 const FIVE_ZONES: u64 = 0x0007_0070_0700_7007;
 
-// The cells that the next cycles leave, how many digits they are, and whether the field ends with the lowest.
+// The cells that the next cycles leave, the count of their digits, and whether the field ends with the lowest digit.
 #[derive(Clone, Copy)]
 pub(crate) struct Turn {
     pub(crate) count: u32,
@@ -16,8 +16,8 @@ pub(crate) struct Turn {
     pub(crate) ends: bool,
 }
 
-// What the next cycles of a strip leave at Q, `whole` or five or those up to the field's end: where the next digits of both are good, P's
-// are unflagged, and the two share no cell.
+// The cells that the next cycles of a strip leave at Q: `whole` or five cells, or those down to the field's end. None unless the next
+// digits of both are good, P's digits are unflagged, and the two share no cell.
 #[inline]
 pub(crate) fn next_stripped<const M: u32>(
     core: &Core<M>,
@@ -53,8 +53,8 @@ pub(crate) fn next_stripped<const M: u32>(
     Some(turn_stripped(5, 5, olds >> 30, high))
 }
 
-// The turn of a strip over `n` cells of Q, the lowest of a word, which get the digits of another: those up to the field's end, and
-// where it isn't among them only the highest `whole`.
+// The pass of a strip over `n` cells of Q, the lowest of a word, which get the digits of another word: those down to the field's end,
+// or only the highest `whole` if the end isn't among them.
 #[inline(always)]
 fn turn_stripped(n: u32, whole: u32, olds: u64, digits: u64) -> Turn
     requires n { 5 ≤ n }
@@ -80,7 +80,7 @@ fn turn_stripped(n: u32, whole: u32, olds: u64, digits: u64) -> Turn
     }
 }
 
-// The next ten cells of Q, where they are good, and the highest five share no cell with the next pairs of P.
+// The next ten cells of Q, if they are good and the highest five share no cell with the next five pairs of P.
 #[inline]
 pub(crate) fn next_ten<const M: u32>(core: &Core<M>, pairs: u32, left: u32) -> Option<u64>
     requires pairs { 2 * pairs ≤ size M }
@@ -95,8 +95,8 @@ pub(crate) fn next_ten<const M: u32>(core: &Core<M>, pairs: u32, left: u32) -> O
     if are_good(olds) { Some(olds) } else { None }
 }
 
-// The turn of a fill over five good cells of Q, the lowest of a word: those up to the field's end, and where it isn't among them only
-// the highest `whole`.
+// The pass of a fill over five good cells of Q, the lowest of a word: those down to the field's end, or only the highest `whole` if the
+// end isn't among them.
 #[inline(always)]
 pub(crate) fn turn_filled(five: u64, whole: u32) -> Turn
     requires five { five < 2 ^ 30 }
@@ -119,8 +119,8 @@ pub(crate) fn turn_filled(five: u64, whole: u32) -> Turn
     }
 }
 
-// How many of `n` positions or pairs, counted from the start of a word, lie in the word of the highest, where each holds `word` of them:
-// behind so many each turn stores whole words. Where none is left, it is a whole word.
+// How many of `n` positions or pairs, counted from the start of a word, lie in the last word, if each word holds `word` of them.
+// After that many, each pass stores whole words. If `n` fills whole words, the answer is `word`.
 #[inline(always)]
 pub(crate) fn rest_of_word(n: u32, word: u32) -> u32
     requires { 1 ≤ word }
@@ -131,7 +131,7 @@ pub(crate) fn rest_of_word(n: u32, word: u32) -> u32
     if rest == 0 { word } else { rest }
 }
 
-// Whether `n` pairs of P are left and ten positions of Q, and the next `n` of each share no cell.
+// Whether `n` pairs of P and ten positions of Q are left, and the next `n` of each share no cell.
 #[inline]
 fn are_apart(pairs: u32, left: u32, n: u32) -> bool
     requires pairs { 2 * pairs < 2 ^ 32 }
@@ -178,7 +178,7 @@ fn both_are_good(olds: u64, five: u64) -> bool
     are_good((olds >> 30 << 30) + five)
 }
 
-// A word whose lowest cell has its flag turned round, and its parity kept.
+// A word whose lowest cell has its flag inverted, and its parity kept.
 #[inline]
 fn flag_turned(w: u64) -> u64
     requires { w < 2 ^ 60 }
@@ -189,7 +189,7 @@ fn flag_turned(w: u64) -> u64
     (w >> 6 << 6) + (c ^ 48)
 }
 
-// The odd cells of a word, as the lowest five of another.
+// The odd cells of a word, as the lowest five of another word.
 #[inline]
 fn odd_cells(w: u64) -> u64
     requires { w < 2 ^ 60 }
@@ -204,7 +204,7 @@ fn odd_cells(w: u64) -> u64
     c0 + (c1 << 6) + (c2 << 12) + (c3 << 18) + (c4 << 24)
 }
 
-// The lowest five cells of a word as the odd ones of another, whose even ones are zones of numbers.
+// The lowest five cells of a word as the odd cells of another word, whose even cells are zones of numbers.
 #[inline]
 fn with_zones(five: u64) -> u64
     ensures { AreZoned result five }

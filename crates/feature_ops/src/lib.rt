@@ -1,10 +1,10 @@
-//! Flags that move, and numbers between two forms: a digit a position, and a digit with a zone, as characters have it.
+//! Moves of flags, and conversions of numbers between two forms: one digit per position, and digits with zones, as in characters.
 //!
-//! A field has a digit a position, and ends with a flag. In the other form each digit stands at an odd position, with its zone at
-//! the even one below it: 7 for a number's digit, and 5 at the units for a negative number. Both are addressed at their units.
-//! Each works one digit after another, so that what is left where the two lie over each other is decided digit by digit. Ten digits or
-//! five are taken at a time, and so are the last of a field, and once so many that the next ones fill whole words, where they are good
-//! and the two lie apart, which leaves the same.
+//! A field has one digit per position, and ends with a flag. In the other form each digit lies at an odd position, with its zone at
+//! the even position below it: 7 for a number's digit, and 5 at the units of a negative number. Both are addressed at their units.
+//! A conversion works one digit after another; if the two forms overlap, this order decides the result. If the next digits are good
+//! and the two share no cell, a pass takes ten or five digits at a time, with the same result. One pass may take fewer, so that the next
+//! passes store whole words; the last pass takes the digits that are left in the field.
 //!
 //! Source: this project's own.
 #![tactic(auto)]
@@ -30,8 +30,7 @@ pub const NEGATIVE_ZONE: u8 = 5;
 
 /// Carries out an operation of a special feature.
 ///
-/// `p` and `q` are below the size of core; of a strip and a fill `p` is odd. What changes, and the stops, are those of the operation's own
-/// call.
+/// `p` and `q` are below the size of core; for TNS and TNF `p` is odd. Changes and stops are as for `move_flag`, `strip` or `fill`.
 #[inline(never)]
 pub fn do_feature<const M: u32>(
     core: &mut Core<M>,
@@ -51,11 +50,11 @@ pub fn do_feature<const M: u32>(
     }
 }
 
-/// Moves the flag of the digit at `q` to the one at `p`: the instruction MF.
+/// Moves the flag of the digit at `q` to the digit at `p`: the instruction MF.
 ///
-/// The digit at `p` gets a flag where the one at `q` has one, and loses its own where it has none. Then the one at `q` loses its flag.
+/// The digit at `p` gets a flag if the digit at `q` has one, else loses its own. Then the digit at `q` loses its flag.
 /// `p` and `q` are below the size of core. Both values and all other cells stay.
-/// Stops: those of `read_at` at `q`, then at `p`; core then stays.
+/// Stops: as for `read_at` at `q`, then at `p`; core then stays.
 pub fn move_flag<const M: u32>(core: &mut Core<M>, p: u32, q: u32) -> Result<(), Stop>
     requires p { p < size M }
     requires q { q < size M }
@@ -82,10 +81,10 @@ pub fn move_flag<const M: u32>(core: &mut Core<M>, p: u32, q: u32) -> Result<(),
 
 /// Strips the digits at `p` of their zones, into the field at `q`: the instruction TNS.
 ///
-/// The field keeps its flags, but for the one of its units, which becomes that of a negative number where the zone of P's units says
-/// so. It ends with its first flagged digit that is not the units. `p` and `q` are below the size of core, and `p` is odd.
-/// Stops: those of `read_at` at the zone of P's units; then in each cycle 2 where P's or Q's position would go below 00000, then those
-/// of `read_at` at P's position, then at Q's; the digits stored before stay.
+/// The field keeps its flags, except at its units: these get a flag if the zone of P's units is 5, else none. The field ends with its
+/// first flagged digit that is not the units. `p` and `q` are below the size of core, and `p` is odd.
+/// Stops: as for `read_at` at the zone of P's units. Then in each cycle: 2 if P's or Q's position would go below 00000, then as for
+/// `read_at` at P's position, then at Q's. The digits stored before stay.
 #[inline(never)]
 pub fn strip<const M: u32>(core: &mut Core<M>, p: u32, q: u32) -> Result<(), Stop>
     requires p { p < size M }
@@ -120,7 +119,7 @@ pub fn strip<const M: u32>(core: &mut Core<M>, p: u32, q: u32) -> Result<(), Sto
     strip_digits(core, pairs, left)
 }
 
-// The cycles of a strip, one after another, where so many pairs of P and so many positions of Q are left.
+// The cycles of a strip, one after another, with `pairs` pairs of P and `left` positions of Q left.
 #[cold]
 #[inline(never)]
 fn strip_digits<const M: u32>(core: &mut Core<M>, pairs: u32, left: u32) -> Result<(), Stop>
@@ -145,11 +144,11 @@ fn strip_digits<const M: u32>(core: &mut Core<M>, pairs: u32, left: u32) -> Resu
     Err(Stop::Address)
 }
 
-/// Fills the digits of the field at `q` up with zones, into the pairs at `p`: the instruction TNF.
+/// Stores the digits of the field at `q` with zones, as the pairs at `p`: the instruction TNF.
 ///
-/// Each digit is stored without its flag, and its zone below it: 7, but 5 at the units where these have a flag. The field ends with its
+/// Each digit is stored without its flag, and its zone below it: 7, or 5 at the units if these have a flag. The field ends with its
 /// first flagged digit that is not the units. `p` and `q` are below the size of core, and `p` is odd.
-/// Stops: 2 where P's or Q's position would go below 00000, then those of `read_at` at Q's position; the digits stored before stay.
+/// Stops: 2 if P's or Q's position would go below 00000, then as for `read_at` at Q's position; the digits stored before stay.
 #[inline(never)]
 pub fn fill<const M: u32>(core: &mut Core<M>, p: u32, q: u32) -> Result<(), Stop>
     requires p { p < size M }
@@ -167,7 +166,7 @@ pub fn fill<const M: u32>(core: &mut Core<M>, p: u32, q: u32) -> Result<(), Stop
     put_pair(core, p - 1, zone, units.value);
     let mut pairs = p / 2;
     let mut left = q;
-    // P's place in its word, which the store of the units has found already, tells how many pairs are left there.
+    // P's place in its word, which the store of the units has found already, gives how many pairs are left in that word.
     let mut whole = rest_of_word((p - 1) % 10 / 2, 5);
     while let Some(olds) = next_ten(core, pairs, left) {
         let first = turn_filled(olds >> 30, 5);
@@ -191,7 +190,7 @@ pub fn fill<const M: u32>(core: &mut Core<M>, p: u32, q: u32) -> Result<(), Stop
     fill_digits(core, pairs, left)
 }
 
-// The cycles of a fill, one after another, where so many pairs of P and so many positions of Q are left.
+// The cycles of a fill, one after another, with `pairs` pairs of P and `left` positions of Q left.
 #[cold]
 #[inline(never)]
 fn fill_digits<const M: u32>(core: &mut Core<M>, pairs: u32, left: u32) -> Result<(), Stop>

@@ -2,7 +2,7 @@
 //!
 //! A field is addressed at its units, which is its highest position, and runs down to a flagged digit that is not the units. A
 //! record is addressed at its lowest position and runs up to a record mark. Both move one digit at a time: a digit is read at Q and
-//! stored at P before the next one is read, so that what a move over its own field or record leaves is decided digit by digit.
+//! stored at P before the next digit is read. If a move stores over its own field or record, this order decides the result.
 #![tactic(auto)]
 
 ghost use Rattle.std.specs.Prelude.{◌≡◌, ℕ, ◌*◌, ◌<◌, List, IfSome, Ok, true, false};
@@ -21,7 +21,7 @@ use instruction_table::MoveOp;
 
 /// Carries out an operation that moves digits within core or changes a flag.
 ///
-/// `p` and `q` are below the size of core; SF and CF don't look at `q`. What changes, and the stops, are those of the operation's own call.
+/// `p` and `q` are below the size of core; SF and CF don't use `q`. Changes and stops are as for `td`, `tf`, `tr`, `sf` or `cf`.
 /// Source: CPU manual, internal data transmission.
 #[inline(always)]
 pub fn make_move<const M: u32>(core: &mut Core<M>, op: MoveOp, p: u32, q: u32) -> Result<(), Stop>
@@ -41,7 +41,7 @@ pub fn make_move<const M: u32>(core: &mut Core<M>, op: MoveOp, p: u32, q: u32) -
 /// Copies the digit at `q` with its flag to `p`: the instruction TD.
 ///
 /// `p` and `q` are below the size of core. All other cells stay.
-/// Stops: those of `read_at` at `q`; core then stays.
+/// Stops: as for `read_at` at `q`; core then stays.
 /// Source: CPU manual, transmit digit.
 pub fn td<const M: u32>(core: &mut Core<M>, p: u32, q: u32) -> Result<(), Stop>
     requires p { p < size M }
@@ -53,10 +53,10 @@ pub fn td<const M: u32>(core: &mut Core<M>, p: u32, q: u32) -> Result<(), Stop>
     Ok(())
 }
 
-/// Moves the field whose units stand at `q` to `p`, with its flags, from the units downwards: the instruction TF.
+/// Moves the field whose units are at `q` to `p`, with its flags, from the units downwards: the instruction TF.
 ///
 /// The field ends with the first flagged digit that is not the units, which is moved too. `p` and `q` are below the size of core.
-/// Stops: 2 where P's or Q's position would go below 00000, then those of `read_at` at Q's position; the digits moved before stay.
+/// Stops: 2 if P's or Q's position would go below 00000, then as for `read_at` at Q's position; the digits moved before stay.
 /// Source: CPU manual, transmit field; that a digit is stored before the next one is read is this project's own.
 pub fn tf<const M: u32>(core: &mut Core<M>, p: u32, q: u32) -> Result<(), Stop>
     requires p { p < size M }
@@ -69,7 +69,7 @@ pub fn tf<const M: u32>(core: &mut Core<M>, p: u32, q: u32) -> Result<(), Stop>
     long_field(core, p, q)
 }
 
-// Moves the field at `q` to `p` as one word, where it ends within ten cells and moves whole. Where the answer is no, core stays.
+// Moves the field at `q` to `p` as one word, if it ends within ten cells and moves as a whole. If the answer is false, core stays.
 #[inline]
 fn short_field<const M: u32>(core: &mut Core<M>, p: u32, q: u32) -> bool
     requires p { p < size M }
@@ -93,7 +93,7 @@ fn short_field<const M: u32>(core: &mut Core<M>, p: u32, q: u32) -> bool
     true
 }
 
-// The field at `q` to `p`, of any length.
+// Moves the field at `q`, of any length, to `p`.
 #[inline(never)]
 fn long_field<const M: u32>(core: &mut Core<M>, p: u32, q: u32) -> Result<(), Stop>
     requires p { p < size M }
@@ -108,7 +108,7 @@ fn long_field<const M: u32>(core: &mut Core<M>, p: u32, q: u32) -> Result<(), St
     field_digits(core, p, q)
 }
 
-// Whether, going down, each of `n` cells at `q` is read before it is stored over.
+// Whether a move downwards reads each of `n` cells at `q` before it stores over it.
 fn reads_first_down(p: u32, q: u32, n: u32) -> bool
     ensures { result ≡ true → ReadsFirstDown p q n }
 {
@@ -118,7 +118,7 @@ fn reads_first_down(p: u32, q: u32, n: u32) -> bool
     q - p >= n
 }
 
-// Whether, going up, each of `n` cells at `q` is read before it is stored over.
+// Whether a move upwards reads each of `n` cells at `q` before it stores over it.
 fn reads_first_up(p: u32, q: u32, n: u32) -> bool
     ensures { result ≡ true → ReadsFirstUp p q n }
 {
@@ -128,8 +128,8 @@ fn reads_first_up(p: u32, q: u32, n: u32) -> bool
     p - q >= n
 }
 
-// How many digits the field at `q` has, where it moves whole: it ends, all its digits are good, P's place lies in core, and each of its
-// cells is read before it is stored over.
+// How many digits the field at `q` has, if it moves as a whole: it ends, all its digits are good, P's place lies in core, and each of
+// its cells is read before it is stored over.
 fn whole_field<const M: u32>(core: &Core<M>, p: u32, q: u32) -> Option<u32>
     requires p { p < size M }
     requires q { q < size M }
@@ -147,7 +147,7 @@ fn whole_field<const M: u32>(core: &Core<M>, p: u32, q: u32) -> Option<u32>
     }
 }
 
-// The field at `q` to `p`, one digit after another.
+// Moves the field at `q` to `p`, one digit after another.
 #[cold]
 #[inline(never)]
 fn field_digits<const M: u32>(core: &mut Core<M>, p: u32, q: u32) -> Result<(), Stop>
@@ -169,10 +169,10 @@ fn field_digits<const M: u32>(core: &mut Core<M>, p: u32, q: u32) -> Result<(), 
     Err(Stop::Address)
 }
 
-/// The law of whole fields: `tf` moves a field. It does not stop, P's cells become what Q's were at the start, and all others stay.
+/// The law of whole fields: `tf` moves a field. It does not stop, P's cells get the contents of Q's at the start, and all others stay.
 ///
-/// The field has two digits or more, all in good cells, and P's place lies in core. The law holds where the two share no position,
-/// and more: wherever each cell of Q's field is read before it is stored over. The call does nothing; the law is its contract.
+/// The field has two digits or more, all in good cells, and P's place lies in core. The law holds if each cell of Q's field is read
+/// before it is stored over; so it holds if the two share no position. The call does nothing; the law is its contract.
 /// Source: CPU manual, transmit field.
 pub fn field_move_law()
     ensures { FieldMoves }
@@ -181,7 +181,7 @@ pub fn field_move_law()
 /// Moves the record at `q` to `p`, with its flags, from its lowest position upwards: the instruction TR.
 ///
 /// The record ends with the first record mark, which is moved too. `p` and `q` are below the size of core.
-/// Stops: 2 where P's or Q's position would go past the end of core, then those of `read_at` at Q's position; the digits moved
+/// Stops: 2 if P's or Q's position would go past the end of core, then as for `read_at` at Q's position; the digits moved
 /// before stay.
 /// Source: CPU manual, transmit record; that a digit is stored before the next one is read is this project's own.
 pub fn tr<const M: u32>(core: &mut Core<M>, p: u32, q: u32) -> Result<(), Stop>
@@ -195,7 +195,7 @@ pub fn tr<const M: u32>(core: &mut Core<M>, p: u32, q: u32) -> Result<(), Stop>
     long_record(core, p, q)
 }
 
-// Moves the record at `q` to `p` as one word, where it ends within ten cells and moves whole. Where the answer is no, core stays.
+// Moves the record at `q` to `p` as one word, if it ends within ten cells and moves as a whole. If the answer is false, core stays.
 #[inline]
 fn short_record<const M: u32>(core: &mut Core<M>, p: u32, q: u32) -> bool
     requires p { p < size M }
@@ -218,7 +218,7 @@ fn short_record<const M: u32>(core: &mut Core<M>, p: u32, q: u32) -> bool
     true
 }
 
-// The record at `q` to `p`, of any length.
+// Moves the record at `q`, of any length, to `p`.
 #[inline(never)]
 fn long_record<const M: u32>(core: &mut Core<M>, p: u32, q: u32) -> Result<(), Stop>
     requires p { p < size M }
@@ -233,8 +233,8 @@ fn long_record<const M: u32>(core: &mut Core<M>, p: u32, q: u32) -> Result<(), S
     record_digits(core, p, q)
 }
 
-// How many digits the record at `q` has, where it moves whole: it ends, all its digits are good, P's place lies in core, and each of its
-// cells is read before it is stored over.
+// How many digits the record at `q` has, if it moves as a whole: it ends, all its digits are good, P's place lies in core, and each of
+// its cells is read before it is stored over.
 fn whole_record<const M: u32>(core: &Core<M>, p: u32, q: u32) -> Option<u32>
     requires p { p < size M }
     requires q { q < size M }
@@ -252,7 +252,7 @@ fn whole_record<const M: u32>(core: &Core<M>, p: u32, q: u32) -> Option<u32>
     }
 }
 
-// The record at `q` to `p`, one digit after another.
+// Moves the record at `q` to `p`, one digit after another.
 #[cold]
 #[inline(never)]
 fn record_digits<const M: u32>(core: &mut Core<M>, p: u32, q: u32) -> Result<(), Stop>
@@ -272,10 +272,10 @@ fn record_digits<const M: u32>(core: &mut Core<M>, p: u32, q: u32) -> Result<(),
     Err(Stop::Address)
 }
 
-/// The law of whole records: `tr` moves a record. It does not stop, P's cells become what Q's were at the start, and all others stay.
+/// The law of whole records: `tr` moves a record. It does not stop, P's cells get the contents of Q's at the start, and all others stay.
 ///
-/// The record has one digit or more, all in good cells, and P's place lies in core. The law holds where the two share no position,
-/// and more: wherever each cell of Q's record is read before it is stored over. The call does nothing; the law is its contract.
+/// The record has one digit or more, all in good cells, and P's place lies in core. The law holds if each cell of Q's record is read
+/// before it is stored over; so it holds if the two share no position. The call does nothing; the law is its contract.
 /// Source: CPU manual, transmit record.
 pub fn record_move_law()
     ensures { RecordMoves }
@@ -284,7 +284,7 @@ pub fn record_move_law()
 /// Sets the flag of the digit at `p`: the instruction SF.
 ///
 /// `p` is below the size of core. The digit's value and all other cells stay.
-/// Stops: those of `read_at` at `p`; core then stays.
+/// Stops: as for `read_at` at `p`; core then stays.
 /// Source: CPU manual, set flag.
 pub fn sf<const M: u32>(core: &mut Core<M>, p: u32) -> Result<(), Stop>
     requires { p < size M }
@@ -304,7 +304,7 @@ pub fn sf<const M: u32>(core: &mut Core<M>, p: u32) -> Result<(), Stop>
 /// Clears the flag of the digit at `p`: the instruction CF.
 ///
 /// `p` is below the size of core. The digit's value and all other cells stay.
-/// Stops: those of `read_at` at `p`; core then stays.
+/// Stops: as for `read_at` at `p`; core then stays.
 /// Source: CPU manual, clear flag.
 pub fn cf<const M: u32>(core: &mut Core<M>, p: u32) -> Result<(), Stop>
     requires { p < size M }

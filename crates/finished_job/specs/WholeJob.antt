@@ -1,4 +1,4 @@
--- A JOB WITH ALL AROUND IT: a message is said of it, and a code is answered.
+-- A WHOLE JOB: its message is written, and its code is answered.
 use Rattle.std.specs.Prelude.{◌≡◌, ℕ, Bool, List, String, Option, IfSome, MatchBool}
 use Rattle.std.specs.declared.alloc.Global.{Global}
 use Rattle.std.specs.Fmt.Cut.{IsTextOrCut}
@@ -14,21 +14,21 @@ use Rattle.finished_job.specs.declared.job.TheConstants.{MESSAGE_ROOM}
 use Rattle.finished_job.specs.Pieces.{Says}
 use Rattle.finished_job.specs.Lost.{LosesCards}
 
--- one piece is said: this text, or, where there is no memory for it and it has more bytes than there is room for, something of it that ends in
--- three dots; of a text that is not told, some piece
+-- one piece is written: this text, or, if there is no memory for it and it is longer than the room, a part of it that ends in
+-- three dots; if the text is not known, some piece
 pub record SaysText (text : Option (List ℕ)) (old new : Option (List (List ℕ))) : Type 0 where
   pub piece : List ℕ
   pub is : IfSome text (λ all. IsTextOrCut MESSAGE_ROOM all piece)
   pub says : Says old new piece
 
--- what there is to say of a job with these words that ended so is said: nothing where the message is empty, and else its text
+-- the message about a job with these words and this ending is written: nothing if it is empty, and else its text
 pub record SaysEnding (ending : JobEnding) (words : List (String Global)) (old new : Option (List (List ℕ))) : Type 0 where
   pub message : Message
   pub is : IsMessageOf ending (word_bytes words) message
   pub says : MatchBool (is_empty message) (new ≡ old) (SaysText (message_text message) old new)
 
--- THE WHOLE JOB: its answer, and the code of its status; and what is said, of an ending with that status and that answer, and of the cards that
--- were punched to no file
+-- THE WHOLE JOB: its answer, and the code of its status; and its message, about an ending with this status and this answer, and
+-- about the cards that were punched to no file
 pub record DoesAndSays (words : List (String Global)) (asks_console : Bool) (old new : Seen) (said_old said_new : Option (List (List ℕ))) (code : ℕ) : Type 0 where
   pub answer : Answer
   pub ending : JobEnding

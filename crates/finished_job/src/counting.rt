@@ -9,18 +9,19 @@ ghost use Rattle.finished_job.specs.Lost.{cards_in_bytes, lost_bytes};
 use crate::trouble::TellsTrouble;
 use outside_io::{Bound, Drive, Host, Put, SECTOR_LENGTH, Take, Trouble, Unit};
 
-// How many bytes a card is punched as: those of its 80 columns, and a line feed.
+// How many bytes a card is punched as: its 80 columns and a line feed.
 const CARD_BYTES: u64 = 81;
 
 /// A host that counts the cards that are punched on it while no file is bound to Punched.
 ///
-/// It tells what the host within it tells, and each call goes to that one. Where Punched is bound the count begins anew, and stands.
+/// It reveals the bytes that the host within it reveals, and passes each call to that host. When Punched is bound, the count goes
+/// back to 0, and stays there.
 #[derive(Drop)]
 pub struct Counting<H: Host> {
     /// The host within.
     pub host: H,
     is_bound: bool,
-    /// How many bytes Punched was given while no file was bound to it. It stands still at 2^64 - 1.
+    /// How many bytes Punched was given while no file was bound to it, at most 2^64 - 1.
     pub bytes: u64,
     ghost bound: { (H.seen host).world.in_use Punched ≡ is_bound },
     ghost counted: { ForSome ((H.seen host).world.written Punched) (λ text. bytes ≡ lost_bytes is_bound text) },

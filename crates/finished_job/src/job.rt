@@ -1,4 +1,4 @@
-// A job with all around it.
+// A whole job: with its message and its exit code.
 // Source: this project's own.
 ghost use Rattle.outside_io.specs.World.{IsFresh};
 ghost use Rattle.job_messages.specs.Messages.{message_text};
@@ -13,14 +13,14 @@ use job_messages::{JobEnding, Message};
 use std::alloc::Global;
 use std::fmt::InlineText;
 
-// How many bytes a message has at most that is said without memory for its text.
+// How many bytes of a message are written at most if there is no memory for its text.
 const MESSAGE_ROOM: usize = 16_384;
 
-/// Does what the words say over a host, says on `errors` what there is to say of it, and answers the code that the program ends with.
+/// Does what the words say over a host, writes the message about it on `errors`, and answers the program's exit code, 0 to 13.
 ///
-/// The job is that of `ibm1620_answer`, and the code is that of its status. A message is said as one piece, so that its lines stay together: the
-/// whole text, or, if there is no memory for it, as much of it as 16,384 bytes hold. It is the message of this answer, of these words, and of the
-/// cards that were punched to no file. If it is empty nothing is said.
+/// The job is the job of `ibm1620_answer`, and the code is the code of its status. The message is one piece, so that its lines
+/// stay together: the whole text, or, if there is no memory for it, as much of it as 16,384 bytes hold. It depends on this
+/// answer, these words, and the cards that were punched to no file. If it is empty, nothing is written.
 ///
 /// No unit of the host is in use, and no output has been given a byte.
 pub fn do_job<H: TellsTrouble, S: Sink>(
@@ -36,7 +36,7 @@ pub fn do_job<H: TellsTrouble, S: Sink>(
     do_read_job(alloc, &Read::of(alloc, words), asks_console, host, errors)
 }
 
-/// Does the same for words that were read before: they are not read again, neither for the job nor for the message.
+/// Does the job of words that were read before: neither the job nor the message reads them again.
 ///
 /// No unit of the host is in use, and no output has been given a byte.
 pub fn do_read_job<H: TellsTrouble, S: Sink>(
@@ -64,7 +64,7 @@ pub fn do_read_job<H: TellsTrouble, S: Sink>(
     status.code()
 }
 
-// Says what there is to say of a job that ended so.
+// Writes the message about this ending, if it is not empty.
 #[cold]
 #[inline(never)]
 fn say_ending<S: Sink>(alloc: Global, read: &Read<'_>, ending: JobEnding<'_>, errors: &mut S)
@@ -77,7 +77,7 @@ fn say_ending<S: Sink>(alloc: Global, read: &Read<'_>, ending: JobEnding<'_>, er
     say(alloc, &message, errors);
 }
 
-// Says a message as one piece.
+// Writes a message as one piece.
 fn say<S: Sink>(alloc: Global, message: &Message<'_>, errors: &mut S)
     ensures { SaysText (message_text message.now) (S.said errors.old) (S.said errors.new) }
 {
@@ -87,7 +87,7 @@ fn say<S: Sink>(alloc: Global, message: &Message<'_>, errors: &mut S)
     }
 }
 
-// Says a message, or a first part of it, as one piece, and takes no memory.
+// Writes a message, or a first part of it, as one piece, and takes no memory.
 #[cold]
 #[inline(never)]
 fn say_without_memory<S: Sink>(message: &Message<'_>, errors: &mut S)

@@ -1,8 +1,8 @@
-//! A job with all around it: it is done over a host, a message is said of it, and its code is answered.
+//! A whole job: it is done over a host, its message is written, and its code is answered.
 //!
-//! A host that tells what failed last is a `TellsTrouble`. Messages are said on a `Sink`: the standard error, or `MemorySink` in memory. The host is
-//! inside a `Counting`, which counts the cards that are punched to no file. The contract of `do_job` says which status, which code and which message
-//! a job gives.
+//! A host that reports its last failure is a `TellsTrouble`. Messages are written on a `Sink`: the standard error, or
+//! `MemorySink` in memory. The host is inside a `Counting`, which counts the cards that are punched to no file. The contract of
+//! `do_job` defines the status, the code and the message of a job.
 #![tactic(auto)]
 
 mod counting;

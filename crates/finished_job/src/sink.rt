@@ -1,4 +1,4 @@
-// What messages are said on.
+// The sinks that messages are written on.
 // Source: this project's own.
 ghost use Rattle.std.specs.Prelude.{◌≡◌, ℕ, List, [], Option, Some, None, is_some, IfSome, OnOk};
 ghost use Rattle.finished_job.specs.Pieces.{Says};
@@ -6,17 +6,17 @@ ghost use Rattle.finished_job.specs.Pieces.{Says};
 use std::alloc::{AllocError, Global};
 use std::io::Write;
 
-/// What messages are said on, as the standard error.
+/// A receiver of messages, for example the standard error.
 pub trait Sink {
-    /// The pieces that were said, one behind another, where it tells them.
+    /// The pieces that were written, one after another, if the sink reveals them.
     ghost said: { Self → Option (List (List ℕ)) };
 
-    /// Writes a piece, whole as far as it can; a failure is not told.
+    /// Writes a piece, whole as far as it can; a failure is not reported.
     fn say(&mut self, piece: &str)
         ensures { Says (said self.old) (said self.new) piece.now };
 }
 
-/// A writer as a sink, such as the standard error of the system. It tells nothing.
+/// A writer as a sink, for example the standard error of the system. It reveals nothing.
 #[derive(Drop)]
 pub struct OnErrors<W> {
     writer: W,
@@ -37,7 +37,8 @@ impl<W: Write> Sink for OnErrors<W> {
     }
 }
 
-/// A sink in memory, for tests. It tells the pieces that were said, until memory for one is wanting; from then on it tells nothing.
+/// A sink in memory, for tests. It reveals the pieces that were written, until memory for a piece is lacking; from then on it
+/// reveals nothing.
 #[derive(Drop)]
 pub struct MemorySink {
     alloc: Global,
@@ -48,7 +49,7 @@ pub struct MemorySink {
 impl MemorySink {
     ghost use Rattle.finished_job.specs.Said.{bytes_of_pieces, said_pieces};
 
-    /// A sink on which nothing was said.
+    /// A sink without a piece.
     pub fn new(alloc: Global) -> Self
         ensures { said_pieces result ≡ Some [] }
     {
@@ -59,21 +60,21 @@ impl MemorySink {
         }
     }
 
-    /// Whether it still tells what was said.
+    /// Whether it still reveals the pieces.
     pub fn tells(&self) -> bool
         ensures { result ≡ is_some (said_pieces self.now) }
     {
         self.tells
     }
 
-    /// The pieces that were said, where it still tells them.
+    /// The pieces that were written, if the sink still reveals them.
     pub fn pieces(&self) -> &[Vec<u8>]
         ensures { IfSome (said_pieces self.now) (λ pieces. bytes_of_pieces result.now ≡ pieces) }
     {
         &self.pieces
     }
 
-    // Keeps a piece behind the others.
+    // Keeps a piece after the others.
     fn keep(&mut self, piece: &[u8]) -> Result<(), AllocError>
         ensures ok { OnOk result (Says (said_pieces self.old) (said_pieces self.new) piece.now) }
         ensures tells { self.new.tells ≡ self.old.tells }

@@ -1,9 +1,9 @@
-// Hosts that tell what failed last.
+// Hosts that report their last failure.
 use outside_io::{Host, Lockable, MemHost, RealHost, Trouble};
 use std::os::unix::fs::FileExt;
 use std::rt::{Clock, Files};
 
-/// A host that tells what failed last.
+/// A host that reports its last failure.
 ///
 /// Source: this project's own.
 pub trait TellsTrouble: Host {

@@ -1,7 +1,7 @@
 // Whether the environment asks for the console.
 use std::env::{Env, FillError};
 
-// The environment variable by which the console is asked for.
+// The environment variable that asks for the console.
 const ASKED: &str = "IBM1620_CONSOLE";
 
 // Whether the variable is there, whatever its value is.

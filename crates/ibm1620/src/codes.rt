@@ -1,10 +1,10 @@
-// The codes that jobs over files end with, and what they say, in the folder where the test runs.
+// The exit codes of jobs over files, and their messages, in the folder of the test.
 use crate::job::do_over_files;
 use crate::tests::words_from;
 use finished_job::MemorySink;
 use std::fs;
 
-// A job over `FILES` and the file `endless`, its code, and what is said.
+// A job over `FILES` and the file `endless`, its code, and its message.
 struct CodeRow {
     words: &'static [&'static str],
     code: u8,
@@ -185,7 +185,7 @@ const ROWS: [CodeRow; 18] = [
     },
 ];
 
-// The files that the jobs read, but for the long one, `endless`.
+// The files that the jobs read, except the long one, `endless`.
 const FILES: [(&str, &[u8]); 10] = [
     ("halts", b"48000000000000000000\n"),
     ("checks", b"23000000000000000000\n"),
@@ -204,7 +204,7 @@ fn writes(rt: &HostRuntime, name: &str, bytes: &[u8]) -> bool {
     fs::write(rt, name, bytes).is_ok()
 }
 
-// Whether the file `endless` was written, of one line end more than a script or the commands may have bytes.
+// Whether the file `endless` was written: one more line end than a script or the commands may have bytes.
 fn writes_endless(rt: &HostRuntime) -> bool {
     match vec![in rt.alloc(); b'\n'; 1_000_001] {
         Ok(endless) => writes(rt, "endless", &endless),
@@ -212,7 +212,7 @@ fn writes_endless(rt: &HostRuntime) -> bool {
     }
 }
 
-// The code of a job, and what it said.
+// The code of a job, and the sink with its message.
 fn done(rt: &HostRuntime, texts: &[&str]) -> Option<(u8, MemorySink)> {
     let words = words_from(rt.alloc(), texts).ok()?;
     let mut errors = MemorySink::new(rt.alloc());
@@ -220,7 +220,7 @@ fn done(rt: &HostRuntime, texts: &[&str]) -> Option<(u8, MemorySink)> {
     Some((code, errors))
 }
 
-// What was said as one piece, or nothing; none where it is told no more, or more pieces were said.
+// The message as one piece, empty if there is no piece; `None` if the sink lost a piece, or has more pieces.
 fn whole_text(errors: &MemorySink) -> Option<&[u8]> {
     match (errors.tells(), errors.pieces()) {
         (true, []) => Some(&[]),
@@ -229,7 +229,7 @@ fn whole_text(errors: &MemorySink) -> Option<&[u8]> {
     }
 }
 
-// Whether the job ends with this code, and says this and no more.
+// Whether the job ends with this code and exactly this message.
 fn ends(rt: &HostRuntime, texts: &[&str], code: u8, said: &str) -> bool {
     match done(rt, texts) {
         Some((ended, errors)) => ended == code && whole_text(&errors) == Some(said.as_bytes()),
@@ -237,7 +237,7 @@ fn ends(rt: &HostRuntime, texts: &[&str], code: u8, said: &str) -> bool {
     }
 }
 
-// Whether the words are told to have the name of a file where an option is wanted.
+// Whether the message says that the name of a file is at the place of an option.
 fn is_refused(rt: &HostRuntime, texts: &[&str]) -> bool {
     let Some((code, errors)) = done(rt, texts) else {
         return false;
@@ -261,7 +261,7 @@ fn each_code_with_its_message(rt: HostRuntime) {
     }
 }
 
-// The words are not plain: the line goes to the standard output, and the commands are told.
+// The words are not plain: the line goes to the standard output, and the message refuses the words.
 #[test]
 fn words_that_are_not_plain(rt: HostRuntime) {
     assert!(rt; is_refused(&rt, &["load", "cards"]));

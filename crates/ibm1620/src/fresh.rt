@@ -21,7 +21,7 @@ impl<'a> Fresh<'a> {
         Fresh { names }
     }
 
-    // Removes those that are there now and have no byte. One that can't be removed stays.
+    // Removes the files that are there now and have no byte. A file that can't be removed stays.
     pub(crate) fn remove_empty(&self, rt: &HostRuntime) {
         for name in self.names {
             let Some(name) = name else {
@@ -34,7 +34,7 @@ impl<'a> Fresh<'a> {
     }
 }
 
-// The name of the unit's file, where the words name one and it is not there.
+// The name of the unit's file, if the words name one and it does not exist.
 fn absent_file<'a>(rt: &HostRuntime, read: &Read<'a>, unit: Unit) -> Option<&'a str> {
     let name = read.file(unit)?;
     if is_absent(rt, name) {

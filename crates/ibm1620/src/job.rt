@@ -6,7 +6,7 @@ use command_line::Read;
 use finished_job::{Counting, Sink, do_read_job};
 use outside_io::RealHost;
 
-// Does what the words say over files, says on `errors` what there is to say of it, and answers the code. A job that ends before it makes the
+// Does what the words say over files, writes its message on `errors`, and answers the code. A job that ends before it makes the
 // texts of its source leaves no new empty file for them.
 pub(crate) fn do_over_files<S: Sink>(
     rt: &HostRuntime,
@@ -24,8 +24,8 @@ pub(crate) fn do_over_files<S: Sink>(
     Ok(code)
 }
 
-// Whether a job with this code may have ended before it made the texts of its source: for the source itself, its length, the script or the
-// commands, or because the host failed or had no memory. With any other code an empty image is the right one.
+// Whether a job with this code may have ended before it made the texts of its source: because of the source itself or its length,
+// the script or the commands, or because the host failed or had no memory. With any other code an empty image is right.
 fn ends_before_texts(code: u8) -> bool {
     matches!(code, 1 | 7 | 8 | 10 | 11 | 13)
 }

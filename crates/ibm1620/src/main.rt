@@ -1,6 +1,6 @@
 //! The IBM 1620 Model 1 as a card system: the program that a user runs.
 //!
-//! A job over any host, with its code and what is said of it, is the call of `finished_job`. Here is what the system gives and takes: the words, the
+//! `finished_job` does a job over any host, with its code and its message. This crate gives it the system: the words, the
 //! standard streams, the files and the standard output as the job's host, and the environment.
 #![tactic(auto)]
 

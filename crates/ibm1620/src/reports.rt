@@ -1,5 +1,5 @@
-// What the program over any host says of a job: the code and the report line of each status, the names that units are bound to, and the law
-// of loaded programs.
+// The program over any host: the code and the report line of each status, the names that units are bound to, and the law of
+// loaded programs.
 use crate::tests::words_from;
 use addr_indirect::Stop;
 use ibm1620_cli::{Status, headline_law, ibm1620, prompt_law};

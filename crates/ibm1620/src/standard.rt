@@ -1,4 +1,4 @@
-// The standard input, output and error, where the program begins with one of them closed.
+// The standard input, output and error, if the program begins with one of them closed.
 use crate::start::NoStart;
 use std::fs::File;
 use std::os::fd::AsRawFd;
@@ -6,11 +6,11 @@ use std::os::fd::AsRawFd;
 // The descriptors of the standard input, output and error are those below this one.
 const FIRST_FREE: i32 = 3;
 
-// What stands in for each standard stream that was closed.
+// The file that replaces each standard stream that was closed.
 pub(crate) type HeldStreams = [Option<File>; 3];
 
-// Opens what can only be read, and is empty, for each standard stream that is closed. So no file of the job gets its descriptor while
-// this is held, and a write to it fails.
+// Opens an empty file that can only be read, for each standard stream that is closed. So no file of the job gets its descriptor
+// while this file is held, and a write to it fails.
 pub(crate) fn hold_standard(rt: &HostRuntime) -> Result<HeldStreams, NoStart> {
     let mut held = [None, None, None];
     for place in 0..3 {

@@ -1,4 +1,4 @@
-// What the program needs before its job begins.
+// The words and the memory that the program needs before its job begins.
 use command_line::{Command, Read};
 use outside_io::{PackRoom, Unit};
 use std::fmt;
@@ -7,7 +7,7 @@ use std::io::{self, ErrorKind};
 // Why no job began.
 #[derive(Debug, Drop)]
 pub(crate) enum NoStart {
-    // Nothing can stand in for a closed standard stream.
+    // No file can replace a closed standard stream.
     NoNull(io::Error),
     // The system does not give the words as text.
     NoText,
@@ -45,7 +45,7 @@ impl fmt::Display for NoStart {
     }
 }
 
-// The words behind the program's name.
+// The words after the program's name.
 pub(crate) fn words_of(rt: &HostRuntime) -> Result<Vec<String>, NoStart> {
     let arguments = std::env::args(rt).map_err(no_words)?;
     let mut words = Vec::new(rt.alloc());
@@ -65,7 +65,7 @@ fn no_words(error: io::Error) -> NoStart {
     }
 }
 
-// The room for the blank pack of the job that the words say, where it has one: so that its machine takes no memory once it is powered on.
+// The room for the blank pack of the job that the words say, if it has one, so that its machine takes no memory after power on.
 pub(crate) fn room_for(rt: &HostRuntime, read: &Read<'_>) -> Result<Option<PackRoom>, NoStart> {
     if !has_blank_pack(read) {
         return Ok(None);

@@ -1,4 +1,4 @@
-// What the program says and the code that it ends with.
+// The messages of the program and the codes that it ends with.
 use crate::standard::hold_standard;
 use crate::start::{NoStart, words_of};
 use addr_indirect::Stop;
@@ -19,7 +19,7 @@ pub(crate) fn words_from(alloc: Global, texts: &[&str]) -> Result<Vec<String>, A
     Ok(words)
 }
 
-// What the program says of a job with these words that ended so, with the failure of the host where there was one.
+// The message about a job with these words and this status, and the failure of the host, if there was one.
 fn said(
     alloc: Global,
     status: Status,
@@ -43,7 +43,7 @@ fn said(
     said_of_words(alloc, ending, &words)
 }
 
-// What it says of such an ending, its words being read.
+// The message about this ending, with its words read.
 fn said_of_words(
     alloc: Global,
     ending: JobEnding<'_>,
@@ -61,7 +61,7 @@ fn said_as_read(
     format!(in alloc; "{message}")
 }
 
-// Whether the program says this and no more of such a job.
+// Whether the message about a job is exactly this.
 fn says(
     alloc: Global,
     status: Status,
@@ -75,7 +75,7 @@ fn says(
     }
 }
 
-// Whether the program says this, maybe among more, of a job without words that ended so.
+// Whether the message about a job without words and with this status has this text.
 fn mentions(alloc: Global, status: Status, want: &str) -> bool {
     match said(alloc, status, None, &[]) {
         Ok(text) => text.as_str().contains(want),
@@ -109,7 +109,7 @@ const RUN_LARGER: &[&str] = &["run", "--source", "source.txt", "--core", "40000"
 
 const LOAD_LARGEST: &[&str] = &["load", "--deck", "cards.txt", "--core", "60000"];
 
-// A file whose name has control characters of one and of two bytes, and a letter that is none.
+// A file whose name has control characters of one byte and of two bytes, and a letter that is not a control character.
 const LOAD_CONTROLS: &[&str] = &["load", "--deck", "\u{1b}[2J\u{9b}\t\u{7f}\u{e9}.txt"];
 
 const DEBUG: &[&str] = &[
@@ -131,7 +131,7 @@ const QUIET: [Status; 4] = [
     },
 ];
 
-// Each status, the words, and what is said.
+// Each status, the words, and the message.
 const STATUSES: [(Status, &[&str], &str); 22] = [
     (
         Status::Refused {
@@ -372,12 +372,12 @@ fn each_stop_has_its_meaning(rt: HostRuntime) {
     }
 }
 
-// An error of the system, as it is told.
+// An error of the system.
 fn refused() -> Cause {
     Cause::System(Error::from(ErrorKind::PermissionDenied))
 }
 
-// Whether the program says this and no more where the system did not permit it.
+// Whether the message is exactly this if the system did not permit the call.
 fn tells_refused(alloc: Global, texts: &[&str], unit: Unit, doing: Doing, want: &str) -> bool {
     let trouble = Trouble {
         unit,
@@ -387,7 +387,7 @@ fn tells_refused(alloc: Global, texts: &[&str], unit: Unit, doing: Doing, want: 
     says(alloc, Status::HostFault, Some(trouble), texts, want)
 }
 
-// What failed at a unit, and what is said.
+// The failure at a unit, and the message.
 const FAILURES: [(Unit, Doing, &str); 6] = [
     (
         Unit::Deck,
@@ -455,7 +455,7 @@ fn a_sector_that_fails(rt: HostRuntime) {
     }
 }
 
-// Whether the program says this and no more where what is typed cannot be written for this cause.
+// Whether the message is exactly this if typed text cannot be written for this cause.
 fn tells_cause(alloc: Global, cause: Cause, want: &str) -> bool {
     let trouble = Trouble {
         unit: Unit::Typed,
@@ -508,7 +508,7 @@ fn a_blank_pack_without_memory(rt: HostRuntime) {
     assert!(rt; says(rt.alloc(), Status::HostFault, Some(trouble), LOAD, want));
 }
 
-// Words that are not plain name no file, even where an option stands among them.
+// Words that are not plain name no file, even with an option among them.
 #[test]
 fn the_report_of_usage_has_no_file(rt: HostRuntime) {
     let words = ["load", "--report", "x"];
@@ -517,7 +517,7 @@ fn the_report_of_usage_has_no_file(rt: HostRuntime) {
     assert!(rt; tells_refused(rt.alloc(), &words, Unit::Report, Doing::Write, want));
 }
 
-// Whether what is said where the words are not plain has lines of under 80 bytes alone.
+// Whether the message for words that are not plain has only lines of under 80 bytes.
 fn usage_is_narrow(alloc: Global) -> bool {
     let Ok(text) = said(alloc, Status::Usage, None, &[]) else {
         return false;
@@ -530,7 +530,7 @@ fn usage_is_narrow(alloc: Global) -> bool {
     true
 }
 
-// Whether the option of the unit's file stands in what is said there.
+// Whether the message for words that are not plain has the option of the unit's file.
 fn usage_mentions(alloc: Global, unit: Unit) -> bool {
     let word = unit.word();
     match format!(in alloc; "--{word}") {
@@ -560,7 +560,7 @@ fn usage_fits_a_screen(rt: HostRuntime) {
     }
 }
 
-// Whether the program ends with this code and says this and no more where no job began.
+// Whether the program ends with this code and exactly this message if no job began.
 fn ends_before(alloc: Global, failure: &NoStart, code: u8, want: &str) -> bool {
     match format!(in alloc; "{failure}") {
         Ok(text) => failure.code() == code && text.as_str() == want,
@@ -568,7 +568,7 @@ fn ends_before(alloc: Global, failure: &NoStart, code: u8, want: &str) -> bool {
     }
 }
 
-// Why no job may have begun, the code, and what is said.
+// The reasons why no job begins, each with its code and its message.
 fn before_the_job() -> [(NoStart, u8, &'static str); 3] {
     [
         (

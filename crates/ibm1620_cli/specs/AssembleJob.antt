@@ -18,7 +18,7 @@ assembled_status m form source =
     let a = assembled_source m source in
     Assembled (length a.placed) (digit_count a.pieces) (card_count m form source)
 
--- what is done for such a source: its texts are written, and then the report line; no memory is taken once a byte is written
+-- the promise for a sound source: its texts are written, and then the report line; no memory is taken once a byte is written
 abbrev pub written_promise : ℕ → Settings → List ℕ → World → Promise
 written_promise m settings source w = record {
   job = Some (job_with_report (assembled_status m settings.form source) (made_events (made_of m settings.form source)));
@@ -33,7 +33,7 @@ assemble_promise m settings = source_promise m nothing_done (written_promise m s
 
 -- What the functions of this job answer.
 
--- the status of what was assembled, with so many cards
+-- the status of an assembled source, with this number of cards
 abbrev pub status_of_assembled : assembled.Assembled → ℕ → Status
 status_of_assembled a cards = Assembled (length a.placed) (digit_count a.image.pieces) cards
 

@@ -26,7 +26,7 @@ use Rattle.ibm1620_cli.specs.Program.{Program, deck_of, cards_before, set_up_at_
 use Rattle.ibm1620_cli.specs.Source.{assembled_source, program_of, made_of, made_events, events_at, running_promise, source_promise}
 use Rattle.ibm1620_cli.specs.LoadJob.{script_read}
 
--- commands have so many bytes at most
+-- how many bytes commands have at most
 abbrev pub longest_commands : ℕ
 longest_commands = 1000000
 
@@ -44,7 +44,7 @@ commands_read m text =
 abbrev pub keyed_program : Program → MachineFeed → SetUp
 keyed_program p feed written = load_key (set_up_at_power_on p feed written)
 
--- so it is loaded, over the texts of a world: the session begins at the deck's first card
+-- the machine that is loaded so, over the texts of a world: the session begins at the deck's first card
 abbrev pub keyed_over : Program → World → List ScriptLine → MachineFeed → LoadedMachine
 keyed_over p w lines feed = record {
   powered = state_over w (set_up_at_power_on p feed);
@@ -56,7 +56,7 @@ keyed_over p w lines feed = record {
   first = first_over w (keyed_program p feed) lines;
 }
 
--- what the session over a source is given
+-- the inputs of the session over a source
 abbrev pub debugging_of : ℕ → Settings → List ScriptLine → List DebugCommand → List ℕ → Debugging
 debugging_of m settings lines commands source = record {
   limit = settings.limit;
@@ -65,7 +65,7 @@ debugging_of m settings lines commands source = record {
   commands = commands;
 }
 
--- what is done for a source that breaks no rule: its texts are written, and then the session is held
+-- the promise for a source that breaks no rule: its texts are written, and then the session is held
 abbrev pub debugged_promise : ℕ → Settings → List ScriptLine → List DebugCommand → List ℕ → World → Promise
 debugged_promise m settings lines commands source w =
     let written = made_events (made_of m settings.form source) in
@@ -73,12 +73,12 @@ debugged_promise m settings lines commands source w =
     let p = program_of m settings.form source in
     session_promise (Some (deck_of p)) written given (keyed_over p w lines) (feed_at w)
 
--- what is done once the commands are read
+-- the promise once the commands are read
 abbrev pub commands_promise : ℕ → Settings → List ScriptLine → List DebugCommand → World → Promise
 commands_promise m settings lines commands =
     source_promise m (events_at m settings.form) (running_promise m (debugged_promise m settings lines commands))
 
--- what is done once the script is read
+-- the promise once the script is read
 abbrev pub lines_promise : ℕ → Settings → List ScriptLine → World → Promise
 lines_promise m settings lines =
     read_promise units.Commands (commands_read m) (events_at m settings.form) (commands_promise m settings lines)

@@ -22,11 +22,11 @@ boot_cards m source = bootstrap (assembled_source m source).pieces (assembled_so
 abbrev pub sectors_of_source : ℕ → List ℕ → List SectorText
 sectors_of_source m source = image_sectors (assembled_source m source).pieces
 
--- the status of such a source
+-- the status of a source that was placed
 abbrev pub placing_status : ℕ → List ℕ → Status
 placing_status m source = Placed (length (sectors_of_source m source)) (length (boot_cards m source))
 
--- what is written one after another: the deck, the image, and the sectors
+-- the texts and sectors that are written one after another: the deck, the image, and the sectors
 pub record DiskPlacing : Type 0 where
   pub deck : List ℕ
   pub image : List ℕ
@@ -43,11 +43,11 @@ disk_placing m source = record {
 abbrev pub sector_events : List SectorText → List Event
 sector_events sectors = map (λ s. WriteSector s.sector s.text) sectors
 
--- all of a placing, thing by thing: the bytes of the deck, then those of the image, and then the sectors, rising
+-- the events of a placing: the bytes of the deck, then the bytes of the image, and then the sectors, rising
 abbrev pub placing_events : DiskPlacing → List Event
 placing_events p = text_events units.Object p.deck ++ (text_events units.Image p.image ++ sector_events p.sectors)
 
--- what is done for such a source: all of it, and then the report line; no memory is taken once a byte is written
+-- the promise for a sound source: its placing is written, and then the report line; no memory is taken once a byte is written
 abbrev pub placing_promise : ℕ → List ℕ → World → Promise
 placing_promise m source w = record {
   job = Some (job_with_report (placing_status m source) (placing_events (disk_placing m source)));
@@ -70,7 +70,7 @@ with_boot_image p w = world_after_put units.Image p.image (with_boot p w)
 abbrev pub with_placed : DiskPlacing → World → World
 with_placed p w = world_after p.sectors (with_boot_image p w)
 
--- both texts are whole, and all sectors are written besides
+-- both texts are whole, and then also all sectors are written
 pub record AreTextsWhole (p : DiskPlacing) (old new : World) : Type 0 where
   pub deck : new.written units.Object ≡ (with_boot_image p old).written units.Object
   pub image : new.written units.Image ≡ (with_boot_image p old).written units.Image
@@ -84,14 +84,14 @@ pub record IsInOrder (p : DiskPlacing) (old new : World) : Type 0 where
   pub sectors : (new.sectors ≡ old.sectors) ⊎ AreTextsWhole p old new
   pub report : (new.written units.Report ≡ old.written units.Report) ⊎ IsAllPlaced p old new
 
--- whatever first part of a placing and its report line is done, it is in this order
+-- each first part of a placing and its report line is in this order
 abbrev pub PlacingLaw : Type 0
 PlacingLaw = (p : DiskPlacing) (line : List ℕ) (old new : World)
     → DidPart (placing_events p ++ text_events units.Report line) old new → IsInOrder p old new
 
 -- What the functions of this job answer.
 
--- the placing of what was assembled, where this is its deck
+-- the placing of an assembled source with this deck
 abbrev pub placing_with : List ℕ → assembled.Assembled → DiskPlacing
 placing_with deck a = record {
   deck = deck;

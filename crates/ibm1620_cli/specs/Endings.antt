@@ -17,7 +17,7 @@ use Rattle.ibm1620_cli.specs.LoadJob.{script_read}
 use Rattle.ibm1620_cli.specs.DebugJob.{commands_read}
 use Rattle.ibm1620_cli.specs.Job.{modules_of}
 
--- a trial: the words say `trial`; its source is made of the words alone
+-- a trial: the words say `trial`; its source is made from the words alone
 pub record SaidTrial (words : List (List ℕ)) : Type 0 where
   pub said : WordsSaid
   pub said_is : plain words ≡ Some said
@@ -28,14 +28,14 @@ abbrev pub is_refused : Status → Bool
 is_refused (Refused statement rule) = true
 is_refused answer = false
 
--- Such a trial, whose status is neither `HostFault` nor `OutOfMemory`, ends in one of the six ways of a run, or its source is refused.
+-- A trial whose status is neither `HostFault` nor `OutOfMemory` ends in one of the six ways of a run, or its source is refused.
 abbrev pub TrialEnds : List (List ℕ) → Seen → Seen → Status → Type 0
 TrialEnds words old new answer =
     SaidTrial words → answer ≢ HostFault → answer ≢ OutOfMemory
     → (ends_a_run answer ≡ true) ⊎ (is_refused answer ≡ true)
 
--- a sound session: the words say `debug`; its script, its commands and its source are read, and no statement of the source breaks a rule.
--- The host tells their bytes.
+-- a sound session: the words say `debug`; its script, its commands and its source are read, and no statement of the source breaks
+-- a rule. The host reveals their bytes.
 pub record SoundSession (words : List (List ℕ)) (w : World) : Type 0 where
   pub said : WordsSaid
   pub said_is : plain words ≡ Some said
@@ -53,7 +53,7 @@ pub record SoundSession (words : List (List ℕ)) (w : World) : Type 0 where
   pub source_fits : source_read source ≡ Ok source
   pub unbroken : refusal_of (size (modules_of said.core)) source ≡ None
 
--- Such a session, whose status is neither `HostFault` nor `OutOfMemory`, comes to its end.
+-- A sound session whose status is neither `HostFault` nor `OutOfMemory` ends with the status `SessionEnded`.
 abbrev pub SessionEnds : List (List ℕ) → Seen → Seen → Status → Type 0
 SessionEnds words old new answer =
     SoundSession words old.world → answer ≢ HostFault → answer ≢ OutOfMemory → answer ≡ SessionEnded

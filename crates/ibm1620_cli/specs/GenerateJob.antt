@@ -1,4 +1,4 @@
--- The job generate: a source is made by numbers.
+-- The job generate: a source is made from two numbers.
 use Rattle.std.specs.Prelude.{[], Some, None, false}
 use Rattle.outside_io.specs.declared.host.Unit.TheVariants as units
 use Rattle.outside_io.specs.World.{World, Seen}
@@ -19,6 +19,6 @@ generate_promise settings w = record {
   usage = false;
 }
 
--- what the job answers
+-- the job keeps this promise
 abbrev pub MakesSource : Settings → Seen → Seen → Answer → Type 0
 MakesSource settings old new answer = KeepsPromise (generate_promise settings old.world) old new answer

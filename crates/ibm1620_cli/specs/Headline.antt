@@ -1,4 +1,4 @@
--- THE HEADLINE, in one place: what a run of a source that breaks no rule comes to.
+-- THE HEADLINE, in one place: what a run of a source that breaks no rule does.
 use Rattle.std.specs.Prelude.{ℕ, ◌≡◌, ◌≢◌, ◌≤◌, true, List, [], ◌∷◌, length, Some, None, IfSome, Ok, if◌then◌else◌}
 use Rattle.outside_io.specs.declared.host.Unit as unit
 use Rattle.outside_io.specs.declared.host.Unit.TheVariants as units
@@ -26,8 +26,8 @@ bytes_in u [] = []
 bytes_in u (WriteByte v byte ∷ ds) = if same_unit v u then byte ∷ bytes_in u ds else bytes_in u ds
 bytes_in u (d ∷ ds) = bytes_in u ds
 
--- A sound run: the words say `run`; its script and its source are no longer than they may be; the script keeps its grammar, and no
--- statement of the source breaks a rule. The host tells their bytes, and what the machine is fed with.
+-- A sound run: the words say `run`; its script and its source are no longer than they may be; the script keeps its grammar, and
+-- no statement of the source breaks a rule. The host reveals their bytes, and the machine's feed.
 pub record SoundRun (words : List (List ℕ)) (w : World) : Type 0 where
   pub said : WordsSaid
   pub said_is : plain words ≡ Some said
@@ -44,12 +44,12 @@ pub record SoundRun (words : List (List ℕ)) (w : World) : Type 0 where
   pub feed : MachineFeed
   pub feed_is : feed_at (all_bound said.names w) ≡ Some feed
 
--- its program, whose deck has the form that the words say
+-- the program of a sound run, whose deck has the form that the words say
 abbrev pub program_in : {words : List (List ℕ)} {w : World} → SoundRun words w → Program
 program_in r = program_of (modules_of r.said.core) r.said.settings.form r.source
 
--- all that it does: its files are bound, its texts are written, the cards of its deck are taken, and then come the turns, as the instruction
--- table gives them, from the program's own machine on; the program is that of its source
+-- the job of a sound run: its files are bound, its texts are written, the cards of its deck are taken, and then come the turns,
+-- as the instruction table gives them, from the program's own machine on; the job's program is the program of its source
 abbrev pub job_in : {words : List (List ℕ)} {w : World} → SoundRun words w → Job
 job_in {w = w} r =
     let made = made_events (made_of (modules_of r.said.core) r.said.settings.form r.source) in
@@ -60,12 +60,12 @@ job_in {w = w} r =
     (turns_job (Some (deck_of (program_in r))) made r.said.settings.limit (loaded_by (program_in r) r.feed powered first)))
 
 -- What the program of a sound run does, under its script and up to its limit:
---   loads: the Load key over its deck, and the deck's steps, leave over any core the image over both standard tables, and enter the start;
---       outside they take the deck's cards, and do nothing else;
---   enters: so does the program's own machine, the data cards being in its hopper;
---   does: the status is that of the turns from there on, all of their job was done, thing by thing, Data and Keys have what the machine
---       of the last place leaves of them, the console is that of this place, and the statement is the one at its IR;
---   texts: so each told text has the very bytes that the job writes on its unit;
+--   loads: over any core, the Load key over its deck and the deck's steps leave the image over both standard tables, and enter
+--     the start; outside they take the deck's cards, and do nothing else;
+--   enters: this set-up equals the program's own machine, with the data cards in its hopper;
+--   does: the turns from there on give the status, and all of their job was done, event by event; the machine of the last place
+--     gives the rest of Data and Keys, the console, and the statement at its IR;
+--   texts: each text that the host reveals has the very bytes that the job writes on its unit;
 --   ending: the status is one of the six with which a run ends.
 pub record DoesProgram {words : List (List ℕ)} (old : Seen) (r : SoundRun words old.world) (new : Seen) (answer : Answer)
     : Type 0 where

@@ -5,7 +5,7 @@ use Rattle.outside_io.specs.declared.host.Unit.TheVariants as units
 use Rattle.outside_io.specs.World.{Asked, same_unit}
 use Rattle.cpu_step.specs.Machine.{is_read}
 
--- none of them, or one
+-- no unit, or one unit
 abbrev pub reads_nothing : unit.Unit → Bool
 reads_nothing u = false
 
@@ -21,16 +21,16 @@ reads_commands u = same_unit units.Commands u
 abbrev pub reads_pack : unit.Unit → Bool
 reads_pack u = same_unit units.Pack u
 
--- what a machine works with: Deck, Data, Keys and the pack; its contract leaves it open whether a reader with cards of its own leaves Deck
--- alone
+-- the units that a machine works with: Deck, Data, Keys and the pack; the contract leaves it open whether a reader with cards of
+-- its own leaves Deck alone
 abbrev pub reads_feed : unit.Unit → Bool
 reads_feed u = is_read u || reads_pack u
 
--- between two moments an input was found to have no more once at most, where it is told how it was asked
+-- between two moments at most one reading of an input found no more, if the host reveals how it was asked
 abbrev pub EndsOnce : Option Asked → Option Asked → Type 0
 EndsOnce old new = IfSome old (λ a. IfSome new (λ b. b.ends ≤ a.ends + 1))
 
--- those of one and those of another
+-- the units of one job and the units of another
 abbrev pub reads_both : (unit.Unit → Bool) → (unit.Unit → Bool) → unit.Unit → Bool
 reads_both a b u = a u || b u
 
@@ -38,15 +38,15 @@ reads_both a b u = a u || b u
 abbrev pub placing_reads : unit.Unit → Bool
 placing_reads u = reads_both reads_source reads_pack u
 
--- the source, and then what its machine works with
+-- the source, and then the units of its machine
 abbrev pub reads_program : unit.Unit → Bool
 reads_program u = reads_both reads_source reads_feed u
 
--- the commands before them
+-- the commands, before the source and the units of its machine
 abbrev pub reads_session : unit.Unit → Bool
 reads_session u = reads_both reads_commands reads_program u
 
--- the script before what a machine works with, before a source, and before commands
+-- the script, before the units of a machine, before a source, and before commands
 abbrev pub load_reads : unit.Unit → Bool
 load_reads u = reads_both reads_script reads_feed u
 

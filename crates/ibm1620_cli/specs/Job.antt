@@ -1,4 +1,4 @@
--- What the program does, by its words and by what the host tells.
+-- What the program does, by its words and by the bytes that the host reveals.
 use Rattle.std.specs.Prelude.{◌≡◌, ◌⊎◌, ℕ, List, [], ◌∷◌, ◌++◌, map, Bool, String, string_bytes, Option, Some, None, is_some, true, false, if◌then◌else◌}
 use Rattle.std.specs.declared.alloc.Global.{Global}
 use Rattle.outside_io.specs.declared.host.Unit as unit
@@ -31,7 +31,7 @@ modules_of OneModule = 1
 modules_of TwoModules = 2
 modules_of ThreeModules = 3
 
--- THE TABLE of jobs: the promise of each command for so many modules of core, by the settings, from the world in which its files are bound
+-- THE TABLE of jobs: the promise of each command for m modules of core, from the world in which its files are bound
 abbrev pub job_promise : ℕ → Command → Settings → World → Promise
 job_promise m Assemble settings = assemble_promise m settings
 job_promise m Load settings = load_promise m settings
@@ -51,30 +51,30 @@ reads Generate = reads_nothing
 reads Trial = reads_feed
 reads Disk = placing_reads
 
--- a file is bound where there's a name
+-- a file is bound if there is a name
 abbrev pub bind_event : unit.Unit → Option (List ℕ) → List Event
 bind_event u None = []
 bind_event u (Some name) = BindFile u name ∷ []
 
--- to each of these units the file that is named for it, one unit after another
+-- each of these units is bound to the file that is named for it, one unit after another
 abbrev pub bind_events : List unit.Unit → Names → List Event
 bind_events [] names = []
 bind_events (u ∷ us) names = bind_event u (names u) ++ bind_events us names
 
--- all files are bound, and then the job of the command is done in the world where they are
+-- all files are bound, and then the job of the command is done in the world with these bindings
 abbrev pub said_promise : WordsSaid → World → Promise
 said_promise said bound =
     promise_behind (bind_events all_units said.names) (job_promise (modules_of said.core) said.command said.settings bound)
 
--- words that are not plain: the line that says so, and nothing else
+-- the promise of words that are not plain: the line that reports them, and nothing else
 abbrev pub usage_promise : Promise
 usage_promise = record { job = Some (job_with_report Usage []); outline = None; made = texts_alone (Some []); usage = true }
 
--- what plain words say, from the world at the entry
+-- the promise of plain words is kept, from the world at the entry
 abbrev pub DoesSaid : WordsSaid → Seen → Seen → Answer → Type 0
 DoesSaid said old new answer = KeepsFrom (said_promise said) (all_bound said.names old.world) old new answer
 
--- WHAT THE PROGRAM DOES: for plain words what they say
+-- WHAT THE PROGRAM DOES: it keeps the promise of plain words, or of words that are not plain
 abbrev pub DoesWords : Option WordsSaid → Seen → Seen → Answer → Type 0
 DoesWords None old new answer = KeepsPromise usage_promise old new answer
 DoesWords (Some said) old new answer = DoesSaid said old new answer
@@ -89,12 +89,12 @@ pub record LacksWords (words : List (List ℕ)) (old new : Seen) (status : Statu
   pub lacks : status ≡ OutOfMemory
   pub nothing : new ≡ old
 
--- what the program answers: texts, sectors and console are those of one moment of what it does
+-- the program does the job of its words; or the words are plain, and no memory was found to read them
 abbrev pub TellsAnswer : List (List ℕ) → Seen → Seen → Answer → Type 0
 TellsAnswer words old new answer =
     DoesWords (plain words) old new answer ⊎ (LacksWords words old new answer.status × (answer ≡ answer_of OutOfMemory))
 
--- a status is that of an answer of which this holds
+-- the status of an answer that has this property
 pub record IsStatusOf (status : Status) (Holds : Answer → Type 0) : Type 0 where
   pub answer : Answer
   pub is : status ≡ answer.status
@@ -105,9 +105,9 @@ abbrev pub BindsSaid : List (List ℕ) → Seen → Seen → Status → Type 0
 BindsSaid words old new answer =
     BindsNamed (names_of (plain words)) old.world new.world answer ⊎ LacksWords words old new answer
 
--- Each input that the command does not read keeps all that it had: the bytes of its file, where one is bound to it, and else those from
--- before. And it is not asked. So does the pack keep its sectors, where the command does not work with it. An input that no machine works with,
--- as Source, Script and Commands, is found to have no more once at most.
+-- Each input that the command does not read keeps all its bytes, which are the bytes of its file if a file is bound to it; and it
+-- is not asked. The pack also keeps its sectors, if the command does not work with it. At most one reading of an input that no
+-- machine works with, as Source, Script and Commands, finds no more.
 pub record KeepsFiles (said : WordsSaid) (old new : Seen) : Type 0 where
   pub left : (u : unit.Unit) → reads said.command u ≡ false
       → new.world.left u
@@ -118,22 +118,22 @@ pub record KeepsFiles (said : WordsSaid) (old new : Seen) : Type 0 where
   pub asked : (u : unit.Unit) → reads said.command u ≡ false → new.world.asked u ≡ old.world.asked u
   pub once : (u : unit.Unit) → reads_feed u ≡ false → EndsOnce (old.world.asked u) (new.world.asked u)
 
--- for words that are not plain no input is asked at all
+-- if the words are not plain, the program asks no input at all
 abbrev pub KeepsSaid : Option WordsSaid → Seen → Seen → Type 0
 KeepsSaid None old new =
     (new.world.left ≡ old.world.left) × (new.world.sectors ≡ old.world.sectors) × (new.world.asked ≡ old.world.asked)
 KeepsSaid (Some said) old new = KeepsFiles said old new
 
--- what is not worked with
+-- the units that the job does not work with are left alone
 abbrev pub KeepsUnread : List (List ℕ) → Seen → Seen → Type 0
 KeepsUnread words old new = KeepsSaid (plain words) old new
 
--- What the functions behind plain words answer.
+-- What the functions for plain words answer.
 
 abbrev pub BindsFiles : WordsSaid → Seen → Seen → Status → Type 0
 BindsFiles said old new answer = BindsNamed said.names old.world new.world answer
 
--- once the files are bound, by a machine with so many modules of core
+-- the job once the files are bound, for m modules of core
 abbrev pub DoesJobIn : ℕ → WordsSaid → Seen → Seen → Answer → Type 0
 DoesJobIn m said old new answer = KeepsJob (job_promise m said.command said.settings) old new answer
 

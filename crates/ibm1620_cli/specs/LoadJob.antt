@@ -18,7 +18,7 @@ use Rattle.ibm1620_cli.specs.Promise.{Promise, KeepsPromise, KeepsJob, read_prom
 use Rattle.ibm1620_cli.specs.Reading.{read_within}
 use Rattle.ibm1620_cli.specs.Turns.{MachineFeed, feed_at, state_over_feed, lines_of_feed, SetUp, state_over, first_over, LoadedMachine, turns_promise}
 
--- what a load stands on: the bytes of the deck, and what the machine is fed with besides
+-- the inputs of a load: the bytes of the deck, and the rest of the machine's feed
 pub record Loading : Type 0 where
   pub deck : List ℕ
   pub feed : MachineFeed
@@ -33,7 +33,7 @@ loading_at w = loading_of (w.left units.Deck) (feed_at w)
 abbrev pub cards_to_load : Loading → List Entry
 cards_to_load l = hopper_of [] l.deck l.feed.cards
 
--- a machine with so many modules of core at power on, before them
+-- a machine with m modules of core at power on, with these cards in its hopper
 abbrev pub powered_to_load : ℕ → Loading → SetUp
 powered_to_load m l written = state_over_feed m written (cards_to_load l) l.feed
 
@@ -41,7 +41,7 @@ powered_to_load m l written = state_over_feed m written (cards_to_load l) l.feed
 unfoldable pub state_after_load_key : ℕ → Loading → SetUp
 state_after_load_key m l written = load_key (powered_to_load m l written)
 
--- so it is loaded, over the texts of a world: the turns begin at the first card
+-- the machine that is loaded so, over the texts of a world: the turns begin at the first card
 abbrev pub keyed_machine : ℕ → World → List ScriptLine → Loading → LoadedMachine
 keyed_machine m w lines l = record {
   powered = state_over w (powered_to_load m l);
@@ -62,12 +62,12 @@ lines_or_status (Err line) = Err (BadScript line)
 abbrev pub longest_script : ℕ
 longest_script = 1000000
 
--- the lines of a script by its bytes, for so many modules of core, or the status of a job whose script is too long or has a bad line
+-- the lines of a script by its bytes, for m modules of core, or the status of a job whose script is too long or has a bad line
 unfoldable pub script_read : ℕ → List ℕ → Result (List ScriptLine) Status
 script_read m script =
     read_within longest_script units.Script (λ text. lines_or_status (script_of (size m) text)) script
 
--- what is done once the script is read
+-- the promise once the script is read
 abbrev pub loaded_promise : ℕ → Settings → List ScriptLine → World → Promise
 loaded_promise m settings lines w = turns_promise None [] settings.limit (keyed_machine m w lines) (loading_at w)
 

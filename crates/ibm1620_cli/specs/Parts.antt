@@ -55,7 +55,7 @@ ReportsAs old new status line answer =
     ((answer ≡ status) × Goes old new (world_after_put units.Report line old.world))
     ⊎ ((answer ≡ HostFault) × Stops old new units.Report line)
 
--- a refusal is reported, and shown: the statement, the rule that it breaks, and what breaks it there; nothing is shown where the host failed
+-- a refusal is reported, and shown: the statement, its broken rule, and the breaking part; nothing is shown if the host failed
 pub record RefusesAndShows (source : List ℕ) (statement : ℕ) (rule : Rule) (part : Option ℕ) (old new : Seen) (answer : Answer) : Type 0 where
   pub reports : ReportsAs old new (Refused statement rule) (refusal_line source statement rule part) answer.status
   pub console : answer.console ≡ None
@@ -63,7 +63,7 @@ pub record RefusesAndShows (source : List ℕ) (statement : ℕ) (rule : Rule) (
   pub shows : answer.status ≢ HostFault → ShowsRefusal (Some (refused_text source statement rule part)) answer.refusal
   pub unshown : answer.status ≡ HostFault → answer.refusal ≡ None
 
--- so it is refused; or no memory was found, and nothing is done
+-- a refusal is reported and shown; or no memory was found, and nothing is done
 abbrev pub RefusesOrLacks : List ℕ → ℕ → Rule → Option ℕ → Seen → Seen → Answer → Type 0
 RefusesOrLacks source statement rule part old new answer =
     RefusesAndShows source statement rule part old new answer ⊎ ((answer ≡ answer_of OutOfMemory) × (new ≡ old))
@@ -72,14 +72,14 @@ RefusesOrLacks source statement rule part old new answer =
 abbrev pub Reports : Seen → Seen → Status → Status → Type 0
 Reports old new status answer = ReportsAs old new status (report_line status) answer
 
--- nothing belongs to the answer but the status
+-- the answer has nothing except the status
 pub record IsAlone (answer : Answer) : Type 0 where
   pub console : answer.console ≡ None
   pub refusal : answer.refusal ≡ None
   pub statement : answer.statement ≡ None
 
--- the same units are in use, bound to the same names; inputs that are not read keep all that they had, and are not asked; one that no machine
--- works with is found to have no more once at most; and a pack that is not worked with keeps what it had
+-- the same units are in use, bound to the same names; inputs that are not read keep all their bytes, and are not asked; at most
+-- one reading of an input that no machine works with finds no more; and a pack that is not worked with keeps its sectors
 pub record LeavesUnread (reads : unit.Unit → Bool) (old new : World) : Type 0 where
   pub in_use : new.in_use ≡ old.in_use
   pub names : new.names ≡ old.names
@@ -88,7 +88,7 @@ pub record LeavesUnread (reads : unit.Unit → Bool) (old new : World) : Type 0 
   pub asked : (u : unit.Unit) → reads u ≡ false → new.asked u ≡ old.asked u
   pub once : (u : unit.Unit) → reads_feed u ≡ false → EndsOnce (old.asked u) (new.asked u)
 
--- some bytes of a unit are gone, by readings of which one at most found no more, and this holds of all its bytes, be they told or not
+-- readings took some bytes of a unit, at most one of them found no more, and this holds of all its bytes, revealed or not
 pub record TakesFrom (u : unit.Unit) (old new : Seen) (Says : List ℕ → Type 0) : Type 0 where
   pub gone : Readings
   pub once : gone.ends ≤ 1
@@ -97,14 +97,13 @@ pub record TakesFrom (u : unit.Unit) (old new : Seen) (Says : List ℕ → Type 
   pub told : IfSome (old.world.left u) (λ all. all ≡ text)
   pub says : Says text
 
--- some bytes of a unit are gone, by such readings, and nothing is said of them
+-- readings took some bytes of a unit, and at most one of them found no more
 pub record Loses (u : unit.Unit) (old new : Seen) : Type 0 where
   pub gone : Readings
   pub once : gone.ends ≤ 1
   pub goes : Goes old new (world_after_take u gone old.world)
 
--- a unit was looked at, and nothing was read: its bytes are refused with a status of the job's own, or the host failed, or there was no
--- memory
+-- nothing was read of a unit: its bytes are refused with a status of the job's own, or the host failed, or there was no memory
 pub data Unread {A : Type 0} (u : unit.Unit) (read : List ℕ → Result A Status) (old new : Seen) (s : Status)
     : Type 0 where
   refused : TakesFrom u old new (λ text. read text ≡ Err s) → is_own s ≡ true → is_usage s ≡ false
@@ -112,7 +111,7 @@ pub data Unread {A : Type 0} (u : unit.Unit) (read : List ℕ → Result A Statu
   host_failed : Loses u old new → s ≡ HostFault → Rose old.faults new.faults → Unread u read old new s
   lacking : Loses u old new → s ≡ OutOfMemory → Unread u read old new s
 
--- the reading of a unit that has so many bytes at most; the error is the status of a job without them
+-- the reading of a unit that has at most this many bytes; the error is the status of a job without them
 abbrev pub ReadsText : unit.Unit → ℕ → Seen → Seen → Result (Vec ℕ Global) Status → Type 0
 ReadsText u most old new (Ok bytes) = TakesFrom u old new (λ text. text_read most u text ≡ Ok bytes.items)
 ReadsText u most old new (Err s) = Unread u (text_read most u) old new s
@@ -124,7 +123,7 @@ ReadsScript m old new (Ok script) =
     × All (IsLine (size m)) (lines_left script)
 ReadsScript m old new (Err s) = Unread units.Script (script_read m) old new s
 
--- the commands fit so many modules of core, and there is room for their breakpoints
+-- the commands fit m modules of core, and there is room for their breakpoints
 pub record AreReady (m : ℕ) (commands : Commands) : Type 0 where
   pub fits : All (IsCommand (size m)) (command_list commands)
   pub room : HasBreakRoom commands
@@ -136,7 +135,7 @@ ReadsCommands m old new (Ok commands) =
     × AreReady m commands
 ReadsCommands m old new (Err s) = Unread units.Commands (commands_read m) old new s
 
--- a source breaks no rule, and this was assembled of it
+-- a source breaks no rule, and this is its assembly
 abbrev pub IsSoundSource : ℕ → SoundSource → Type 0
 IsSoundSource m sound = IsAssembled (size m) sound.source.items sound.assembled
 
@@ -151,7 +150,7 @@ abbrev pub AssemblesOrRefuses : ℕ → List ℕ → Seen → Seen → Result So
 AssemblesOrRefuses m source old new (Ok sound) = (sound.source.items ≡ source) × IsSoundSource m sound × (new ≡ old)
 AssemblesOrRefuses m source old new (Err answer) = RefusesSource m source old new answer
 
--- a job ends because it has no source, or one that is refused
+-- a job ends because it has no source, or a refused source
 pub data EndsAtSource (m : ℕ) (old new : Seen) (answer : Answer) : Type 0 where
   without : (mid : Seen) (s : Status) → Unread units.Source source_read old mid s → Reports mid new s answer.status → IsAlone answer → EndsAtSource m old new answer
   with_broken : (mid : Seen) (source : List ℕ) → TakesFrom units.Source old mid (λ text. source_read text ≡ Ok source)
@@ -163,7 +162,7 @@ ReadsSource m old new (Ok sound) =
     TakesFrom units.Source old new (λ text. source_read text ≡ Ok sound.source.items) × IsSoundSource m sound
 ReadsSource m old new (Err answer) = EndsAtSource m old new answer
 
--- the texts of what was assembled, where this is its object deck
+-- the texts of an assembled source with this object deck
 abbrev pub made_with : List ℕ → List ℕ → assembled.Assembled → SourceTexts
 made_with object source a = record {
   object = object;
@@ -198,7 +197,7 @@ WritesSource m form source old new (Err s) =
     ((s ≡ OutOfMemory) × (new ≡ old))
     ⊎ ((s ≡ HostFault) × EventsOccur (made_events (made_of m form source)) old new sent.Failed)
 
--- the promise of each program for so many modules of core that has these cards as its deck, in the form of the settings, is kept
+-- the promise is kept for each program of m modules of core that has these cards as its deck, in the form of the settings
 abbrev pub ProgramPromise : ℕ → Settings → Vec Card Global → Script → Seen → Seen → Answer → Type 0
 ProgramPromise m settings cards script old new answer =
     KeepsProgramPromise m settings (map card_bytes cards.items) (lines_left script) old new answer
@@ -209,11 +208,11 @@ pub record ShowsMachine (m : ℕ) (machine : Machine m) (answer : Answer) : Type
   pub refusal : answer.refusal ≡ None
   pub statement : answer.statement ≡ None
 
--- the program of a source that breaks no rule, of which this was assembled
+-- the program of a sound source
 abbrev pub program_of_sound : SoundSource → ProgramTexts
 program_of_sound sound = record { source = sound.source.items; placed = placed_texts sound.assembled }
 
--- an answer with the statement of a program at IR of its console, which is as it was in all else; after a fault of the host it has none
+-- an answer with the statement of a program at IR of its console, and otherwise unchanged; none after a fault of the host
 pub record AddsStatement (p : ProgramTexts) (answer stated : Answer) : Type 0 where
   pub status : stated.status ≡ answer.status
   pub console : stated.console ≡ answer.console
@@ -221,7 +220,7 @@ pub record AddsStatement (p : ProgramTexts) (answer stated : Answer) : Type 0 wh
   pub shows : answer.status ≢ HostFault → ShowsStatement (Some p) answer.console stated.statement
   pub unshown : answer.status ≡ HostFault → stated.statement ≡ None
 
--- the turns of a machine under a script, up to a limit, end somehow after some steps, and the status of that is reported, and the console shown
+-- the turns of a machine under a script, up to a limit, end after some steps; this ending is reported, and the console shown
 pub record TakesTurns (m limit : ℕ) (machine : Machine m) (script : Script) (old new : Seen) (answer : Answer)
     : Type 0 where
   pub left : Machine m
@@ -256,7 +255,7 @@ pub record BreaksSteps (m steps : ℕ) (keyed : Machine m) (old new : Seen) : Ty
   pub made : ℕ
   pub breaks : BreaksOff m steps (moment m keyed none 0 old) (moment m left left_script made new)
 
--- that run came to its end
+-- the steps of a deck are a run without a script, and it came to its end
 pub record MakesSteps (m steps : ℕ) (keyed left : Machine m) (old new : Seen) : Type 0 where
   pub none : Script
   pub no_lines : lines_left none ≡ []
@@ -265,9 +264,9 @@ pub record MakesSteps (m steps : ℕ) (keyed left : Machine m) (old new : Seen) 
   pub how : Ending
   pub out : RunsOut m steps (moment m keyed none 0 old) (moment m left left_script made new) how
 
--- a machine is powered on over a hopper, its Load key is pressed, so many steps are made without a script, and then the turns are taken
--- under the script, up to the limit; or no memory was found, and nothing is done; or the host failed in the key or in the steps, where the console
--- is shown
+-- a machine is powered on over a hopper, its Load key is pressed, the steps of the deck are made without a script, and then the
+-- turns are taken under the script, up to the limit; or no memory was found, and nothing is done; or the host failed in the key
+-- or in the steps, and the console is shown
 pub data Executes (m steps limit : ℕ) (hopper : Hopper) (script : Script) (old new : Seen) (answer : Answer)
     : Type 0 where
   lacks_memory : answer ≡ answer_of OutOfMemory → new ≡ old → Executes m steps limit hopper script old new answer
@@ -296,8 +295,8 @@ pub data HoldsSession (m limit : ℕ) (placed : List PlacedText) (hopper : Hoppe
       (without_count m left left_script mid) breaks → Reports mid new SessionEnded answer.status → ShowsMachine m left answer
       → HoldsSession m limit placed hopper script commands old new answer
 
--- a line is added behind the report line of a status that counts steps, or the host failed after a part of it; for other statuses nothing
--- is done
+-- a line is added after the report line of a status that counts steps, or the host failed after a part of it; for other statuses
+-- nothing is done
 abbrev pub ReportsBy : Option ℕ → Settings → ℕ → Seen → Seen → Status → Status → Type 0
 ReportsBy None settings cards old new status answer = (answer ≡ status) × (new ≡ old)
 ReportsBy (Some steps) settings cards old new status answer =

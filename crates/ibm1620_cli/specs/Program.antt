@@ -27,14 +27,14 @@ use Rattle.outside_io.specs.Events.{Event}
 use Rattle.ibm1620_cli.specs.Promise.{Promise, KeepsPromise}
 use Rattle.ibm1620_cli.specs.Turns.{MachineFeed, feed_at, state_over_feed, lines_of_feed, SetUp, state_over, first_in, first_over, LoadedMachine, turns_job, turns_promise}
 
--- what a source deck without a broken rule comes to, the form in which its object deck is punched, and how many modules of core it is for
+-- the image and start of a source deck without a broken rule, the form of its object deck, and its number of modules of core
 pub record Program : Type 0 where
   pub modules : ℕ
   pub form : DeckForm
   pub image : List DigitRun
   pub start : ℕ
 
--- its digits are good, none stands below 00100, and they and the start lie in its core, which is of a size that exists
+-- its digits are good, none lies below 00100, and they and the start lie in its core, which is of a size that exists
 pub record Fits (p : Program) : Type 0 where
   pub sized : IsSize p.modules
   pub each : All IsPiece p.image
@@ -42,11 +42,11 @@ pub record Fits (p : Program) : Type 0 where
   pub below : All (IsRunBelow (size p.modules)) p.image
   pub start_below : p.start < size p.modules
 
--- its object deck
+-- the object deck of a program
 abbrev pub deck_of : Program → List (List ℕ)
 deck_of p = deck_in p.form p.image p.start
 
--- how many steps that takes
+-- how many steps the object deck takes
 abbrev pub steps_of_deck : Program → ℕ
 steps_of_deck p = deck_steps p.form (length (deck_of p))
 
@@ -66,8 +66,8 @@ set_up_at_power_on p feed written = state_over_feed p.modules written (cards_bef
 unfoldable pub set_up_after_load : Program → MachineFeed → SetUp
 set_up_after_load p feed written = after_steps (steps_of_deck p) (load_key (set_up_at_power_on p feed written))
 
--- the image stands over both standard tables and the transfer card in a core of zeros, the machine runs at the start, the data cards are
--- in the hopper, and all else is as at power on
+-- the core has the image over both standard tables and the transfer card, and zeros elsewhere; the machine runs at the start, the
+-- data cards are in the hopper, and all else is as at power on
 unfoldable pub set_up_at_start : Program → MachineFeed → SetUp
 set_up_at_start p feed written = record {
   core = overlay (replicate (size p.modules) zero_cell) p.image p.start;
@@ -81,7 +81,7 @@ set_up_at_start p feed written = record {
   mode = Running;
 }
 
--- a machine of a program that was powered on in a state, and whose turns begin at a place, once the cards of its deck were taken
+-- a machine of a program that was powered on in this state; the cards of its deck were taken, and its turns begin at this place
 abbrev pub loaded_by : Program → MachineFeed → State → RunPlace → LoadedMachine
 loaded_by p feed powered first = record {
   powered = powered;
@@ -93,21 +93,21 @@ loaded_by p feed powered first = record {
   first = first;
 }
 
--- THE PROMISE OF A PROGRAM, whose deck is loaded first, which takes its cards and does nothing else outside, and whose turns begin at its
--- first instruction
+-- THE PROMISE OF A PROGRAM: its deck is loaded first, which takes its cards and does nothing else outside, and its turns begin at
+-- its first instruction
 abbrev pub program_promise : List Event → ℕ → List ScriptLine → Program → World → Promise
 program_promise before limit lines p w =
     turns_promise (Some (deck_of p)) before limit
     (λ feed. loaded_by p feed (state_over w (set_up_at_power_on p feed)) (first_over w (set_up_after_load p feed) lines)) (feed_at w)
 
--- the promise of each program for so many modules of core that has this deck, in the form of the settings, is kept
+-- the promise is kept for each program of m modules of core that has this deck, in the form of the settings
 abbrev pub KeepsProgramPromise : ℕ → Settings → List (List ℕ) → List ScriptLine → Seen → Seen → Answer → Type 0
 KeepsProgramPromise m settings cards lines old new answer =
     (p : Program) → Fits p → p.modules ≡ m → p.form ≡ settings.form → cards ≡ deck_of p
     → KeepsPromise (program_promise [] settings.limit lines p old.world) old new answer
 
--- THE HEADLINE: by the deck's steps or from the overlaid core on, the job of a run's turns is the same, for every program, script, limit
--- and feed, whatever was done before, and whatever was punched and typed by then
+-- THE HEADLINE: the job of a run's turns is equal after the deck's steps and from the overlaid core on, for every program,
+-- script, limit and feed, whatever was done before, and whatever was punched and typed by then
 abbrev pub HeadlineLaw : Type 0
 HeadlineLaw = (own : Option (List (List ℕ))) (before : List Event) (limit : ℕ) (lines : List ScriptLine) (p : Program) (feed : MachineFeed)
     (written : UnitTexts) → Fits p

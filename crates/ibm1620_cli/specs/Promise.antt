@@ -28,7 +28,7 @@ use Rattle.outside_io.specs.Events.{Event, after_events, cards_in, lines_in, tex
 use Rattle.ibm1620_cli.specs.Makings.{AreMakings}
 use Rattle.ibm1620_cli.specs.Ways.{Way, StandsOn}
 
--- where a machine ends: its state, the cards that were put into its reader's pile, None where its pile is the lines of Deck, and, as they were
+-- the end of a machine: its state; the cards that were put into its reader's pile, None if the pile is the lines of Deck; and, as
 -- at power on, the entries of that pile, all cards of its reader and the lines of its keyboard
 pub record MachineEnd : Type 0 where
   pub state : State
@@ -42,8 +42,8 @@ pub record ProgramTexts : Type 0 where
   pub source : List ℕ
   pub placed : List PlacedText
 
--- a job: how it ends, all that it does outside, in its order, where its machine ends, if it has one, and the way that goes, the statement
--- that it refuses a source for, if it does, and the program of a source that its machine runs, if it runs one
+-- a job: how it ends, and all that it does outside, in its order; the end and the way of its machine, if it has one; the
+-- statement that it refuses a source for, if it does; and the program of a source that its machine runs, if it runs one
 pub record Job : Type 0 where
   pub status : Status
   pub events : List Event
@@ -52,7 +52,7 @@ pub record Job : Type 0 where
   pub refusal : Option RefusedText
   pub program : Option ProgramTexts
 
--- a line is reported behind some events, and the job ends so, its machine there; of no source is it said that the machine runs its program
+-- a job that does some events, reports a line, and ends with this status, machine and way; it names no program of a source
 abbrev pub job_leaving : Option MachineEnd → Option Way → Status → List ℕ → List Event → Job
 job_leaving rest way status line before = record {
   status = status;
@@ -63,20 +63,20 @@ job_leaving rest way status line before = record {
   program = None;
 }
 
--- without a machine
+-- a job without a machine
 abbrev pub job_ending : Status → List ℕ → List Event → Job
 job_ending status line before = job_leaving None None status line before
 
--- the report line of the status is
+-- a job without a machine that reports the line of its status
 abbrev pub job_with_report : Status → List Event → Job
 job_with_report status before = job_ending status (report_line status) before
 
--- What is done where no memory was found: some bindings, all of them, and then a first part of some texts, where it is told which.
+-- What is done if no memory was found: some bindings, all of them, and then a first part of some texts, if they are known.
 pub record Making : Type 0 where
   pub bindings : List Event
   pub texts : Option (List Event)
 
--- without a binding
+-- texts without a binding
 abbrev pub texts_alone : Option (List Event) → Making
 texts_alone texts = record { bindings = []; texts = texts }
 
@@ -86,7 +86,7 @@ pub record Outline : Type 0 where
   pub ends : Status → Bool
   pub before : List Event
 
--- the same after some events
+-- an outline after some events
 abbrev pub outline_after : List Event → Outline → Outline
 outline_after before o = record { ends = o.ends; before = before ++ o.before }
 
@@ -98,7 +98,7 @@ pub record Promise : Type 0 where
   pub made : Making
   pub usage : Bool
 
--- the same job, of which it is said that the machine runs the program of a source, and its promise
+-- a job whose machine runs the program of a source, and the promise of this job
 abbrev pub job_with_program : ProgramTexts → Job → Job
 job_with_program p j = record j { program = Some p }
 
@@ -110,7 +110,7 @@ promise_with_program p c = record {
   usage = c.usage;
 }
 
--- a job behind some events, and its promise behind some bindings
+-- a job after some events, and its promise after some bindings
 abbrev pub job_behind : List Event → Job → Job
 job_behind before j = record j { events = before ++ j.events }
 
@@ -122,7 +122,7 @@ promise_behind before c = record {
   usage = c.usage;
 }
 
--- the statuses that a job ends with
+-- the statuses of a job's own: neither a fault of the host nor a lack of memory
 abbrev pub is_own : Status → Bool
 is_own HostFault = false
 is_own OutOfMemory = false
@@ -132,11 +132,11 @@ abbrev pub is_usage : Status → Bool
 is_usage Usage = true
 is_usage answer = false
 
--- The inputs of a machine have these cards and these lines left, with what a reader and a keyboard hold. A reader holds what is left of the
--- cards that were put into its pile, at most one card, or the text of one line, at its front, and at most 4,096 bytes of Deck and of Data
--- each; a keyboard holds at most 4,096 bytes of Keys. That is the room of `Lines` in card_code. No card was asked for before its turn, but for
--- the look at whether one is left, and no line of Keys; and what is shown is the console of a state, with what reader and keyboard have read
--- since power on.
+-- The inputs of a machine, with the contents of a reader and a keyboard, have these cards and these lines left. A reader holds
+-- the rest of the cards that were put into its pile, at most one card, or the text of one line, at its front, and at most 4,096
+-- bytes of Deck and of Data each; a keyboard holds at most 4,096 bytes of Keys. This is the room of `Lines` in card_code. No card
+-- and no line of Keys was asked for before its turn, except to see whether a card is left. The console of a state is shown, with
+-- all that reader and keyboard have read since power on.
 pub record HasLeft (r : MachineEnd) (cards keys : List Entry) (state : State) (shown : Option Console) (w : World) : Type 0 where
   pub hopper : Hopper
   pub keyboard : Lines
@@ -147,11 +147,11 @@ pub record HasLeft (r : MachineEnd) (cards keys : List Entry) (state : State) (s
   pub typed : typewriter.HasReadLines r.keys keyboard w
   pub shows : shown ≡ Some (console_of state hopper keyboard)
 
--- what is left of the inputs of a machine that ends so, and what its console shows there
+-- the rest of the inputs of a machine with this end, and its console there
 abbrev pub LeavesInputs : MachineEnd → Option Console → World → Type 0
 LeavesInputs r shown w = HasLeft r r.state.hopper r.state.keys r.state shown w
 
--- so it is where a job has a machine; and without one no console is shown
+-- a job's machine leaves its inputs and its console so; without a machine no console is shown
 abbrev pub LeavesMachine : Option MachineEnd → Option Console → World → Type 0
 LeavesMachine None shown w = shown ≡ None
 LeavesMachine (Some r) shown w = LeavesInputs r shown w
@@ -163,17 +163,17 @@ ShowsRefusal None (Some line) = ⊥
 ShowsRefusal (Some r) None = ⊥
 ShowsRefusal (Some r) (Some line) = ShowsRefused r line
 
--- the statement of a program that stands at an address, where one does
+-- the statement of a program at an address, if there is one
 abbrev pub statement_standing_at : ProgramTexts → ℕ → Option StandingText
 statement_standing_at p address = option_map (standing_text p.source) (statement_at p.placed address)
 
--- the statement that stands at IR of a console; none without a program, and none without a console
+-- the statement at IR of a console; None without a program, and without a console
 abbrev pub text_at_ir : Option ProgramTexts → Option Console → Option StandingText
 text_at_ir None shown = None
 text_at_ir (Some p) None = None
 text_at_ir (Some p) (Some console) = statement_standing_at p console.regs.ir
 
--- a statement is shown where there is one, and else none
+-- the statement is shown if there is one, and otherwise none is
 abbrev pub ShowsText : Option StandingText → Option StandingLine → Type 0
 ShowsText None line = line ≡ None
 ShowsText (Some text) line = IsSomeAnd line (λ l. ShowsStanding text l)
@@ -182,8 +182,9 @@ ShowsText (Some text) line = IsSomeAnd line (λ l. ShowsStanding text l)
 abbrev pub ShowsStatement : Option ProgramTexts → Option Console → Option StandingLine → Type 0
 ShowsStatement program shown line = ShowsText (text_at_ir program shown) line
 
--- a job came to its end: this is its status, all of it was done, its machine, where it has one, leaves its inputs so and shows its console, the
--- statement is shown that a source was refused for, and, where the machine runs a program of a source, the statement that stands at IR
+-- a job came to its end: this is its status, and all of it was done. Its machine, if it has one, leaves its inputs and shows its
+-- console. The answer shows the statement that a source was refused for, and the statement at IR if the machine runs a program of
+-- a source
 pub record EndsWithAnswer (j : Job) (old new : Seen) (answer : Answer) : Type 0 where
   pub status : answer.status ≡ j.status
   pub did : DidAll j.events old.world new.world
@@ -220,21 +221,21 @@ TakesNone done = (cards_in done ≡ 0) × (lines_in done ≡ 0)
 abbrev pub Unasked : World → World → Type 0
 Unasked old new = (u : unit.Unit) → is_read u ≡ true → new.asked u ≡ old.asked u
 
--- a state in which a machine stands when the host fails: on its way, or at its end
+-- a state of a machine when the host fails: on its way, or at its end
 abbrev pub StandsSomewhere : MachineEnd → Option Way → State → Type 0
 StandsSomewhere r way s = IsSomeAnd way (λ on. StandsOn on s) ⊎ (s ≡ r.state)
 
--- Cards and lines when a first part of a job was done, behind how their units were asked before, and the console. None is in that part, no unit was
--- asked, and no console is shown. Or the job has a machine, and it is as its reader and its keyboard have it: all cards and lines are left but
--- those that this part takes, none was asked for before its turn, and the console is that of the place where the machine stands.
+-- Cards, lines and console after a first part of a job. Either this part takes no card and no line, Deck, Data and Keys were not
+-- asked, and no console is shown. Or the job has a machine: all cards and lines are left except those that this part takes, none
+-- was asked for before its turn, and the console shows the machine's place.
 pub data AsksForInputs (rest : Option MachineEnd) (way : Option Way) (done : List Event) (shown : Option Console) (old new : World) : Type 0 where
   unasked : TakesNone done → Unasked old new → shown ≡ None → AsksForInputs rest way done shown old new
   asked : (r : MachineEnd) → rest ≡ Some r → (s : State) → StandsSomewhere r way s
       → HasLeft r (drop (cards_in done) r.cards) (drop (lines_in done) r.keys) s shown new
       → AsksForInputs rest way done shown old new
 
--- a first part of a job was done, and nothing else; and the cards and the lines of Keys are those of this very part, so none is asked for
--- before all that the job does in front of it is done
+-- a first part of a job was done, and nothing else; the cards and the lines of Keys that are gone are those in this part, so the
+-- job asks for none before it has done all that comes before it
 pub record StopsAt (j : Job) (shown : Option Console) (old new : World) : Type 0 where
   pub did : DidPart j.events old new
   pub inputs : AsksForInputs j.rest j.way did.done shown old new
@@ -258,21 +259,21 @@ pub record MemoryEnd (c : Promise) (old new : Seen) (answer : Answer) : Type 0 w
   pub part : IfSome c.made.texts (λ all. IsFirstPart done all)
   pub unasked : Unasked old.world new.world
 
--- one of the three: so a promise is kept
+-- a promise is kept in one of these three ways
 abbrev pub KeepsPromise : Promise → Seen → Seen → Answer → Type 0
 KeepsPromise c old new answer = OwnEnd c old new answer ⊎ (FaultEnd c old new answer ⊎ MemoryEnd c old new answer)
 
--- the job by what was read; where that is nothing, the status that says so is reported
+-- the job by the value that was read; if the reading gave a status instead, that status is reported
 abbrev pub job_read : {A : Type 0} → (A → Option Job) → Result A Status → Option Job
 job_read next (Ok what) = next what
 job_read next (Err s) = Some (job_with_report s [])
 
--- the outline of the job by what was read; a job that ends there has no machine
+-- the outline of the job by the value that was read; a job that ends there has no machine
 abbrev pub outline_read : {A : Type 0} → (A → Option Outline) → Result A Status → Option Outline
 outline_read next (Ok what) = next what
 outline_read next (Err s) = None
 
--- THE PROMISE OF A JOB that begins with the reading of a unit, by that of the rest of the job
+-- THE PROMISE OF A JOB that begins with the reading of a unit, by the promise of the rest of the job
 abbrev pub read_promise : {A : Type 0} → unit.Unit → (List ℕ → Result A Status) → (World → Option (List Event))
     → (A → World → Promise) → World → Promise
 read_promise u read made next w = record {
@@ -286,36 +287,36 @@ read_promise u read made next w = record {
 abbrev pub nothing_done : World → Option (List Event)
 nothing_done w = Some []
 
--- WHAT IS READ. A job stands on what Script, Commands and Source hold; a host may tell that or not.
+-- THE TEXTS THAT ARE READ. A job depends on the texts of Script, Commands and Source; a host may reveal them or not.
 pub record InputTexts : Type 0 where
   pub script : List ℕ
   pub commands : List ℕ
   pub source : List ℕ
 
--- these units hold these texts; of all others the host tells what it told
+-- these three units hold these texts; for all other units the host reveals the same bytes as before
 abbrev pub with_texts : InputTexts → (unit.Unit → Option (List ℕ)) → unit.Unit → Option (List ℕ)
 with_texts t left units.Script = Some t.script
 with_texts t left units.Commands = Some t.commands
 with_texts t left units.Source = Some t.source
 with_texts t left u = left u
 
--- the same world, in which these texts are told
+-- the same world, which reveals these texts
 abbrev pub world_with_texts : InputTexts → World → World
 world_with_texts t w = record w { left = with_texts t w.left }
 
--- what the host tells of them is so
+-- the texts that the host reveals are these
 pub record AreTold (t : InputTexts) (w : World) : Type 0 where
   pub script : IfSome (w.left units.Script) (λ text. text ≡ t.script)
   pub commands : IfSome (w.left units.Commands) (λ text. text ≡ t.commands)
   pub source : IfSome (w.left units.Source) (λ text. text ≡ t.source)
 
--- A PROMISE IS KEPT that is given by a world: the one that is given by it where it tells some texts of Script, Commands and Source. These are
--- what the host tells of them, where it does: then it is the promise that is given by the world itself.
+-- A PROMISE IS KEPT that depends on a world: the promise of this world with some texts of Script, Commands and Source revealed.
+-- If the host reveals them, these are its texts, and the promise is the promise of the world itself.
 pub record KeepsFrom (promise : World → Promise) (w : World) (old new : Seen) (answer : Answer) : Type 0 where
   pub texts : InputTexts
   pub told : AreTold texts w
   pub keeps : KeepsPromise (promise (world_with_texts texts w)) old new answer
 
--- that is given by the world in which the job begins
+-- the promise of the world in which the job begins is kept
 abbrev pub KeepsJob : (World → Promise) → Seen → Seen → Answer → Type 0
 KeepsJob promise old new answer = KeepsFrom promise old.world old new answer

@@ -38,7 +38,7 @@ abbrev pub placed_line : ℕ → ℕ → List ℕ
 placed_line sectors cards =
     codes "PLACED SECTORS " ++ decimal sectors ++ codes " CARDS " ++ at_count cards
 
--- THE REPORT LINE of a status; that of a refusal is without what it shows of the statement
+-- THE REPORT LINE of a status; for a refusal it is without the details of the statement
 abbrev pub report_line : Status → List ℕ
 report_line (Halted at steps) = halt_line at steps
 report_line (Assembled statements digits cards) = assembled_line statements digits cards

@@ -1,5 +1,5 @@
--- THE ROUND TRIP: the bytes of Object, given as Deck, are the cards again, and a load of them comes to where the program is entered, and
--- ends and does what comes of that.
+-- THE ROUND TRIP: the bytes of Object, given as Deck, are the cards again. A load of them enters the program, ends where the
+-- program ends, and does what the program does.
 use Rattle.std.specs.Prelude.{ℕ, ◌≡◌, ◌≢◌, ◌≤◌, ◌+◌, List, ◌++◌, length, map, replicate, slice_set, Some, None, IfSome, Ok}
 use Rattle.outside_io.specs.declared.host.Unit.TheVariants as units
 use Rattle.outside_io.specs.World.{World, Seen, all_units}
@@ -44,7 +44,7 @@ use Rattle.ibm1620_cli.specs.LoadJob.{Loading, powered_to_load, state_after_load
 use Rattle.ibm1620_cli.specs.DiskJob.{boot_cards, sectors_of_source, disk_placing, placing_events}
 use Rattle.ibm1620_cli.specs.Job.{modules_of, bind_events}
 
--- so many steps later
+-- a line that is due k steps later
 abbrev pub later_due : ℕ → Due → Due
 later_due k (due.At n) = due.At (n + k)
 later_due k due.Halt = due.Halt
@@ -55,24 +55,23 @@ later_line k line = record { due = later_due k line.due; action = line.action }
 abbrev pub later_lines : ℕ → List ScriptLine → List ScriptLine
 later_lines k lines = map (later_line k) lines
 
--- the same state and lines, with so many steps counted before
+-- the same state, with k more steps counted, and each AT line k steps later
 abbrev pub later_place : ℕ → RunPlace → RunPlace
 later_place k p = record { state = p.state; steps = p.steps + k; script = later_lines k p.script }
 
--- So many turns on from one state stands another, with so many steps counted, under each limit that is not below, where no line is due
--- before.
+-- k turns from the state s lead to the state t, with k steps counted, under each limit of at least k, if no line is due before.
 abbrev pub StandsAfter : ℕ → State → State → Type 0
 StandsAfter k s t = (limit : ℕ) (lines : List ScriptLine) → k ≤ limit → IsQuiet k lines
     → place_after limit k (first_in s lines) ≡ Some (record { state = t; steps = k; script = lines })
 
--- With so many steps more, in the limit and in each AT line, the turns from the one state end where those from the other end, with so many
--- steps more.
+-- With k steps more, in the limit and in each AT line, the turns from the state s end where the turns from the state t end, with
+-- k steps more.
 abbrev pub EndsAfter : ℕ → State → State → Type 0
 EndsAfter k s t = (limit : ℕ) (lines : List ScriptLine)
     → last_place (limit + k) (first_in s (later_lines k lines)) ≡ later_place k (last_place limit (first_in t lines))
 
--- And from the Load key in the one state on, the cards of a deck are taken, and then the same is done outside as from the other on, thing by
--- thing.
+-- From the Load key in the state s on, the cards of a deck are taken, and then all is done outside that is done from the state t
+-- on, event by event.
 abbrev pub DoesAfter : ℕ → List (List ℕ) → State → State → Type 0
 DoesAfter k deck s t = (limit : ℕ) (lines : List ScriptLine)
     → load_events s ++ run_events (limit + k) (first_in (load_key s) (later_lines k lines)) ≡ deck_taken deck ++ run_events limit (first_in t lines)
@@ -81,12 +80,12 @@ DoesAfter k deck s t = (limit : ℕ) (lines : List ScriptLine)
 abbrev pub load_of_made : SourceTexts → MachineFeed → Loading
 load_of_made made feed = record { deck = made.object; feed = feed }
 
--- What the object deck of a program does that is loaded by itself.
+-- What the object deck of a program does that is loaded by itself; n is the number of its steps.
 --   cards: its bytes, given as Deck, are its cards;
---   stands: so many turns behind the Load key as the deck has steps, where no line is due before and the limit is not below, a load stands
---     where the program is entered, that is where a run of it begins, with those steps counted;
---   ends: with that many steps more, in the limit and in each AT line, the load ends where the run ends, with that many steps more;
---   does: and it takes its cards, and does outside what the run does from there, thing by thing, and nothing else.
+--   stands: n turns after the Load key, a load is in the state in which a run of the program begins, with n steps counted, if no
+--     line is due before and the limit is at least n;
+--   ends: with n steps more, in the limit and in each AT line, the load ends where the run ends, with n steps more;
+--   does: it takes its cards, and then does outside what the run does from there, event by event, and nothing else.
 pub record MakesRoundTrip (p : Program) (made : SourceTexts) (feed : MachineFeed) : Type 0 where
   pub cards : entries_of_unit units.Deck 0 made.object ≡ map Text (deck_of p)
   pub stands : (written : UnitTexts)
@@ -112,12 +111,12 @@ steps_of_boot m source = boot_steps (length (boot_cards m source))
 abbrev pub load_of_boot : ℕ → List ℕ → MachineFeed → Loading
 load_of_boot m source feed = record { deck = deck_text (boot_cards m source); feed = feed }
 
--- the arms at power on, where that of drive 1 moved to the cylinder of the last hundred of a source's image
+-- the arms at power on, except that the arm of drive 1 is at the cylinder of the last hundred of a source's image
 abbrev pub arms_from_disk : ℕ → List ℕ → List ℕ
 arms_from_disk m source = slice_set (replicate DRIVES 0) 0 (last_cylinder 0 (stretches (assembled_source m source).pieces))
 
--- the needed hundreds of a source's image stand over the transfer card in a core of zeros, the machine runs at the start, the data cards
--- are in the hopper, the arm of drive 1 moved, and all else is as at power on
+-- the core has the needed hundreds of a source's image over the transfer card, and zeros elsewhere; the machine runs at the
+-- start, the data cards are in the hopper, the arm of drive 1 has moved, and all else is as at power on
 unfoldable pub set_up_from_disk : ℕ → List ℕ → MachineFeed → SetUp
 set_up_from_disk m source feed written =
     let image = (assembled_source m source).pieces in
@@ -137,11 +136,11 @@ set_up_from_disk m source feed written =
 -- What the bootstrap deck of a source does that is loaded over a pack with its sectors.
 --   cards: its bytes, given as Deck, are its cards;
 --   sectors: a pack to which the source's sectors were written, whatever it had before, has the sectors that these cards read;
---   placed: and so has, where it is told, the pack that a placing of the source leaves, behind whatever was done before and with any line
---     reported, as `disk` does it;
---   stands, ends, does: as of an object deck, over each pack that has these sectors, and where the program is entered from disk;
---   enters: that is where the program is entered by its object deck, in either form, but for the arm of drive 1;
---   same: and in a core of one module it is the very same state.
+--   placed: if the host reveals the pack, it has these sectors after a placing of the source, whatever was done before and with
+--     any line reported, as `disk` does it;
+--   stands, ends, does: as for an object deck, over each pack that has these sectors, and with the set-up from disk;
+--   enters: this set-up equals the set-up by the object deck, in either form, except for the arm of drive 1;
+--   same: in a core of one module both set-ups are equal.
 pub record MakesDiskRoundTrip (m : ℕ) (source : List ℕ) : Type 0 where
   pub cards : entries_of_unit units.Deck 0 (deck_text (boot_cards m source)) ≡ map Text (boot_cards m source)
   pub sectors : (before : ℕ → List ℕ)
@@ -167,8 +166,8 @@ pub record MakesDiskRoundTrip (m : ℕ) (source : List ℕ) : Type 0 where
 abbrev pub DiskRoundTripLaw : Type 0
 DiskRoundTripLaw = (m : ℕ) (source : List ℕ) → IsSize m → refusal_of (size m) source ≡ None → MakesDiskRoundTrip m source
 
--- By words: a load whose script is that of a run, with so many steps more in the limit and in each AT line. The words say `load`, and the
--- host tells the bytes of the script and what the machine is fed with.
+-- By words: a load whose script is the script of a run, with some steps more in the limit and in each AT line. The words say
+-- `load`, and the host reveals the bytes of the script and the machine's feed.
 pub record LaterLoad (words : List (List ℕ)) (w : World) : Type 0 where
   pub said : WordsSaid
   pub is : plain words ≡ Some said
@@ -184,8 +183,8 @@ pub record LaterLoad (words : List (List ℕ)) (w : World) : Type 0 where
   pub feed : MachineFeed
   pub feed_is : feed_at (all_bound said.names w) ≡ Some feed
 
--- What such a load of a deck comes to that does what a machine does which is set up so: it binds its files, takes the cards of the deck, does
--- all that this machine does, and reports where that ends, with those steps more.
+-- The job of this load, if the deck leads to a set-up: it binds its files, takes the cards of the deck, does all that a machine
+-- with this set-up does, and reports the ending of that machine, with those steps more.
 abbrev pub later_job : {words : List (List ℕ)} {w : World} → LaterLoad words w → List (List ℕ) → SetUp → Job
 later_job {w = w} r deck set_up =
     let first = first_over (all_bound r.said.names w) set_up r.lines in
@@ -195,8 +194,8 @@ later_job {w = w} r deck set_up =
     (job_leaving (Some (record { state = last.state; own = None; pile = map Text deck; cards = cards_before deck r.feed; keys = lines_of_feed r.feed })) None
     status (report_line status) (deck_taken deck ++ run_events r.limit first))
 
--- A sound load of the object deck of a source that breaks no rule: the bytes of Deck are those that are made of the source as its object
--- deck, in one form or the other, for the core that the words say; and the steps are the deck's.
+-- A sound load of the object deck of a source that breaks no rule: the bytes of Deck are the object deck that is made of the
+-- source, in one form or the other, for the core that the words say; and the steps are the deck's.
 pub record SoundRoundTrip (words : List (List ℕ)) (w : World) : Type 0 where
   pub load : LaterLoad words w
   pub form : DeckForm
@@ -205,14 +204,14 @@ pub record SoundRoundTrip (words : List (List ℕ)) (w : World) : Type 0 where
   pub steps_are : load.steps ≡ steps_of_deck (program_of (modules_of load.said.core) form source)
   pub deck_is : (all_bound load.said.names w).left units.Deck ≡ Some (made_of (modules_of load.said.core) form source).object
 
--- Such a load, whose status is neither `HostFault` nor `OutOfMemory`, does what the program does that is entered.
+-- A sound load of an object deck, whose status is neither `HostFault` nor `OutOfMemory`, does what the entered program does.
 abbrev pub RoundTrip : List (List ℕ) → Seen → Seen → Answer → Type 0
 RoundTrip words old new answer = (r : SoundRoundTrip words old.world) → answer.status ≢ HostFault → answer.status ≢ OutOfMemory
     → let p = program_of (modules_of r.load.said.core) r.form r.source in
     EndsWithAnswer (later_job r.load (deck_of p) (set_up_at_start p r.load.feed)) old new answer
 
--- A sound load of the bootstrap deck of such a source: the bytes of Deck are those that are made of it as its bootstrap deck, the pack has
--- its sectors, as `disk` writes them, and the steps are the deck's.
+-- A sound load of the bootstrap deck of a source that breaks no rule: the bytes of Deck are the bootstrap deck that is made of
+-- it, the pack has its sectors, as `disk` writes them, and the steps are the deck's.
 pub record SoundDiskRoundTrip (words : List (List ℕ)) (w : World) : Type 0 where
   pub load : LaterLoad words w
   pub source : List ℕ
@@ -221,7 +220,7 @@ pub record SoundDiskRoundTrip (words : List (List ℕ)) (w : World) : Type 0 whe
   pub deck_is : (all_bound load.said.names w).left units.Deck ≡ Some (deck_text (boot_cards (modules_of load.said.core) source))
   pub sectors : HasSectors (assembled_source (modules_of load.said.core) source).pieces load.feed.sectors
 
--- Such a load, whose status is neither `HostFault` nor `OutOfMemory`, does what the program does that is entered from disk.
+-- A sound load of a bootstrap deck, whose status is neither `HostFault` nor `OutOfMemory`, does what its program does from disk.
 abbrev pub DiskRoundTrip : List (List ℕ) → Seen → Seen → Answer → Type 0
 DiskRoundTrip words old new answer = (r : SoundDiskRoundTrip words old.world) → answer.status ≢ HostFault → answer.status ≢ OutOfMemory
     → let m = modules_of r.load.said.core in

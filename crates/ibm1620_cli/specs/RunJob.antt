@@ -13,12 +13,12 @@ use Rattle.ibm1620_cli.specs.Program.{program_promise}
 use Rattle.ibm1620_cli.specs.Source.{program_of, made_of, made_events, events_at, running_promise, source_promise}
 use Rattle.ibm1620_cli.specs.LoadJob.{script_read}
 
--- what is done for a source that breaks no rule: its texts are written, and then the turns are taken
+-- the promise for a source that breaks no rule: its texts are written, and then the turns are taken
 abbrev pub turned_promise : ℕ → Settings → List ScriptLine → List ℕ → World → Promise
 turned_promise m settings lines source w =
     program_promise (made_events (made_of m settings.form source)) settings.limit lines (program_of m settings.form source) w
 
--- what is done once the script is read
+-- the promise once the script is read
 abbrev pub script_promise : ℕ → Settings → List ScriptLine → World → Promise
 script_promise m settings lines =
     source_promise m (events_at m settings.form) (running_promise m (turned_promise m settings lines))

@@ -25,11 +25,11 @@ longest_source = 4000000
 unfoldable pub source_read : List ℕ → Result (List ℕ) Status
 source_read source = text_read longest_source units.Source source
 
--- what a source without a broken rule comes to, for so many modules of core
+-- the assembled text of a source without a broken rule, for m modules of core
 abbrev pub assembled_source : ℕ → List ℕ → AssembledText
 assembled_source m source = assembled_text (size m) source
 
--- as a program, whose deck has this form
+-- the program of this text, whose deck has this form
 abbrev pub program_of : ℕ → DeckForm → List ℕ → Program
 program_of m form source = record {
   modules = m;
@@ -59,14 +59,13 @@ made_of m form source = record {
   listing = listing_text source (assembled_source m source).placed;
 }
 
--- all that is written of a source, one thing after another: the bytes of the object deck, then those of the image, and then those of the
--- listing
+-- all that is written of a source, one text after another: the bytes of the object deck, of the image, and of the listing
 abbrev pub made_events : SourceTexts → List Event
 made_events made =
     text_events units.Object made.object
     ++ (text_events units.Image made.image ++ text_events units.Listing made.listing)
 
--- all that is written of a source by its first broken statement, and what may be done of it where no memory was found
+-- all that is written of a source, by its first broken statement; if no memory was found, a first part of it may be done
 abbrev pub events_by : ℕ → DeckForm → Option Refusal → List ℕ → List Event
 events_by m form (Some r) source = []
 events_by m form None source = made_events (made_of m form source)
@@ -77,14 +76,14 @@ events_of_source m form source = events_by m form (refusal_of (size m) source) s
 abbrev pub events_at : ℕ → DeckForm → World → Option (List Event)
 events_at m form w = option_map (events_of_source m form) (w.left units.Source)
 
--- a source is refused: its first broken statement is reported, and what the refusal shows of it
+-- a source is refused: its first broken statement is reported and shown
 abbrev pub refused_job : List ℕ → Refusal → Job
 refused_job source r =
     record (job_ending (Refused r.statement r.fault.rule) (refusal_line source r.statement r.fault.rule r.fault.part) []) {
       refusal = Some (refused_text source r.statement r.fault.rule r.fault.part);
     }
 
--- by the first broken statement of a source: it's refused, or what follows is done
+-- the promise by the first broken statement of a source: it is refused, or the rest of the job is done
 abbrev pub promise_by : (List ℕ → World → Promise) → List ℕ → Option Refusal → World → Promise
 promise_by next source (Some r) w = record { job = Some (refused_job source r); outline = None; made = texts_alone (Some []); usage = false }
 promise_by next source None w = next source w
@@ -92,10 +91,10 @@ promise_by next source None w = next source w
 abbrev pub assembly_promise : ℕ → (List ℕ → World → Promise) → List ℕ → World → Promise
 assembly_promise m next source w = promise_by next source (refusal_of (size m) source) w
 
--- what follows a source is done by a machine that runs its program
+-- the rest of a job with a source, done by a machine that runs its program
 abbrev pub running_promise : ℕ → (List ℕ → World → Promise) → List ℕ → World → Promise
 running_promise m next source w = promise_with_program (texts_of_program m source) (next source w)
 
--- THE PROMISE OF A JOB once nothing but the source is to be read, by what follows where no rule is broken
+-- THE PROMISE OF A JOB once only the source is to be read, by the promise for a source that breaks no rule
 abbrev pub source_promise : ℕ → (World → Option (List Event)) → (List ℕ → World → Promise) → World → Promise
 source_promise m made next = read_promise units.Source source_read made (assembly_promise m next)

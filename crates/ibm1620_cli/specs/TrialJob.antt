@@ -1,4 +1,4 @@
--- The job trial: a source is made by numbers, assembled and run, and a line says how much that was.
+-- The job trial: a source is made from two numbers, assembled and run, and a line reports its numbers, cards and steps.
 use Rattle.std.specs.Prelude.{ℕ, List, [], ◌++◌, codes, decimal, Option, Some, None, option_map}
 use Rattle.outside_io.specs.declared.host.Unit.TheVariants as units
 use Rattle.outside_io.specs.World.{World, Seen}
@@ -15,11 +15,11 @@ use Rattle.ibm1620_cli.specs.Promise.{Job, Promise, KeepsPromise}
 use Rattle.ibm1620_cli.specs.Source.{card_count, running_promise, assembly_promise}
 use Rattle.ibm1620_cli.specs.RunJob.{turned_promise}
 
--- a trial is of one module of core
+-- a trial has one module of core
 abbrev pub trial_modules : ℕ
 trial_modules = 1
 
--- the settings of its run: as many steps as a run makes without a limit, and a self-loading deck
+-- the settings of its run: the standard limit of steps, and a self-loading deck
 abbrev pub trial_settings : Settings → Settings
 trial_settings settings = record settings { limit = standard_limit; form = SelfLoading }
 
@@ -40,12 +40,12 @@ trial_line settings cards steps =
     ++ codes " CARDS " ++ decimal cards
     ++ codes " STEPS " ++ at_count steps
 
--- it stands behind the report line of a status that counts steps
+-- the line after the report line, if the status counts steps
 abbrev pub line_behind : Settings → ℕ → Option ℕ → List ℕ
 line_behind settings cards None = []
 line_behind settings cards (Some steps) = trial_line settings cards steps
 
--- the same job, and behind all else that it does the line of a trial
+-- the same job, with the line of a trial after all else that it does
 abbrev pub job_of_trial : Settings → ℕ → Job → Job
 job_of_trial settings cards j = record j {
   events = j.events ++ text_events units.Report (line_behind settings cards (steps_of j.status));
@@ -60,7 +60,7 @@ with_trial settings cards c = record {
   usage = c.usage;
 }
 
--- what is done for the source that was made, where it breaks no rule
+-- the promise for the made source, if it breaks no rule
 abbrev pub tried_promise : Settings → List ℕ → World → Promise
 tried_promise settings source w =
     let run = turned_promise trial_modules (trial_settings settings) [] source w in

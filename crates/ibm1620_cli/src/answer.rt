@@ -6,25 +6,26 @@ use crate::status::Status;
 use cpu_step::Console;
 use sps_listing::{RefusedLine, StandingLine};
 
-/// How a call of the program ends, and what belongs to that.
+/// How a call of the program ends, with the machine's console, the refused statement and the statement at IR.
 ///
 /// Source: this project's own.
 #[derive(Drop)]
 pub struct Answer {
     /// How it ends.
     pub status: Status,
-    /// What the console of its machine shows at the end, of a session's where the session stands, or where a fault of the host stopped the
-    /// machine; none where no machine was powered on.
+    /// The console of the machine at the end: for a session, at its place in the run; after a fault of the host, as the fault
+    /// left the machine. `None` if no machine was powered on.
     pub console: Option<Console>,
-    /// The statement that a source was refused for, as it stands there; none where no source was refused, or the refusal could not be reported.
+    /// The statement that a source was refused for, as the source has it; `None` if no source was refused, or if the refusal
+    /// could not be reported.
     pub refusal: Option<RefusedLine>,
-    /// The statement of a source that stands at IR of the console, where the machine runs the program of a source and one stands there; none by
-    /// `load`, after a fault of the host, and where no machine was powered on.
+    /// The statement at IR of the console, if the machine runs the program of a source and a statement is there; `None` for
+    /// `load`, after a fault of the host, and if no machine was powered on.
     pub statement: Option<StandingLine>,
 }
 
 impl Answer {
-    // A status, to which nothing belongs.
+    // An answer with a status alone.
     pub(crate) fn of(status: Status) -> Answer
         ensures { result ≡ answer_of status }
     {
@@ -36,7 +37,7 @@ impl Answer {
         }
     }
 
-    // A status, with the console of a machine.
+    // An answer with a status and the console of a machine.
     pub(crate) fn with_console(status: Status, console: Console) -> Answer
         ensures { result ≡ answer_with status console }
     {

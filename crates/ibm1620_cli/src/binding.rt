@@ -7,7 +7,7 @@ ghost use Rattle.command_line.specs.Given.{names_in};
 use command_line::Names;
 use outside_io::{Bound, Host, Unit};
 
-// Binds a file to the unit, where there is a name.
+// Binds a file to the unit, if there is a name.
 fn bind_if<H: Host>(host: &mut H, unit: Unit, name: Option<&str>) -> Bound
     requires { (H.seen host.old).world.in_use unit ≡ false }
     ensures { BindsIf (H.seen host.old) (H.seen host.new) unit (option_copied name.entry) result }

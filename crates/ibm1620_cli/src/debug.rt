@@ -29,7 +29,7 @@ use std::alloc::Global;
 // How many bytes commands have at most.
 const LONGEST_COMMANDS: usize = 1_000_000;
 
-// What a session is given besides its program: the operator's script, the debugger's commands, and the settings.
+// The inputs of a session next to its program: the operator's script, the debugger's commands, and the settings.
 #[derive(Drop)]
 struct Given {
     script: Script,

@@ -81,23 +81,26 @@ fn write_placed<H: Host>(host: &mut H, object: &[u8], assembled: &Assembled) -> 
 
 /// The order of `disk`: no sector is written before both texts are whole, and nothing is reported before the last sector.
 ///
-/// Take any deck, any image, any sectors and any report line, and whatever first part of them is written: the deck first, then the image,
-/// the sectors and the line. If a sector is not as it was, Object has the whole deck and Image the whole image; if a byte was reported, all
-/// sectors are written besides. The call does nothing; the law is its contract.
+/// Take any deck, any image, any sectors and any report line, in this order, and any first part of them that is written. If a
+/// sector has changed, Object has the whole deck and Image the whole image. If a byte was reported, all sectors are written also.
+/// The call does nothing; the law is its contract.
 pub fn placing_law()
     ensures { PlacingLaw }
 {}
 
 /// The round trip by disk: the bootstrap deck of a source, given as a deck over a pack with its sectors, loads the program from there.
 ///
-/// Take a core of any size and any source that breaks no rule for it. The bytes that `disk` leaves on Object are, as those of Deck, the
-/// cards of that deck and no others. The sectors that these cards read are those that `disk` wrote, whatever the pack had before. And over
-/// every pack that has them, with any data cards and any text at the keyboard, so many turns behind the Load key as the deck has steps a
-/// `load` of them stands where the program is entered: at its start, with its hundreds from disk in core, those steps being counted, where
-/// no line of the script is due before and the limit is not below. With that number added to the limit and to each `AT` line, the load ends
-/// where the turns from there end, with that many steps more counted, and takes the cards of the deck and then does outside what they do,
-/// thing by thing, and nothing else. That place is where `run` begins, but for the arm of drive 1; in a core of 20,000 positions it is the
-/// very same. The call does nothing; the law is its contract.
+/// Take a core of any size and any source that breaks no rule for it. The bytes that `disk` leaves on Object, given as Deck, are
+/// the cards of that deck and no others. The sectors that these cards read are the sectors that `disk` wrote, whatever the pack
+/// had before.
+///
+/// Take any pack with these sectors, any data cards and any text at the keyboard, and let n be the number of the deck's steps. If
+/// no line of the script is due before and the limit is at least n, then n turns after the Load key a `load` of the deck has
+/// entered the program. It is at the program's start, with its hundreds from disk in core and n steps counted. With n added to
+/// the limit and to each `AT` line, the load ends where the turns from there end, with n more steps counted. It takes the cards
+/// of the deck, and then does outside what these turns do, event by event, and nothing else. `run` begins in an equal state,
+/// except for the arm of drive 1; in a core of 20,000 positions that arm is equal too. The call does nothing; the law is its
+/// contract.
 pub fn disk_trip_law()
     ensures { DiskRoundTripLaw }
 {}

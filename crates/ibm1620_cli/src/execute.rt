@@ -15,9 +15,9 @@ use operator_script::{Ended, Ending, Script, ScriptFault, run};
 use outside_io::Host;
 use std::alloc::{AllocError, Global};
 
-// Powers a machine on over the hopper, presses the Load key, makes the steps of the deck, takes the turns under the script, up to the
-// limit, and reports how they ended. The deck's steps are a run of their own without a script, whose limit is their number; there are
-// none of them where the script and the limit count from the Load key on.
+// Powers a machine on over the hopper, presses the Load key, makes the steps of the deck, takes the turns under the script, up to
+// the limit, and reports how they ended. The deck's steps are a run of their own: it has no script, and `steps` is its limit.
+// `steps` is 0 if the script and the limit count from the Load key on.
 pub(crate) fn execute<const M: u32, H: Host>(
     alloc: Global,
     host: &mut H,

@@ -1,11 +1,12 @@
 //! The program over any host: its files, its jobs and what it reports.
 //!
-//! The call of the program, `ibm1620_answer`, does what the words say. What a job gives is defined by the words and the bytes of its inputs: a
-//! status, and one list of all that is done outside. The call answers that status, and all of the list was done; or it answers a fault of the
-//! host, and exactly a first part of it was done; or want of memory, before the machine was powered on. With it come the console of the machine,
-//! the statement that a source was refused for, and the one that stands at IR. It says too which inputs are left alone. `ibm1620` answers the status
-//! alone, and `ibm1620_read` does what words say that were read before.
-//! `generate` makes a source by two numbers, as the job of that name does.
+//! The call of the program, `ibm1620_answer`, does what the words say. The words and the bytes of a job's inputs define a status,
+//! and one list of all that the job does outside. The call answers that status after the whole list was done. After a fault of
+//! the host, exactly a first part of the list was done. If memory is lacking, the call ends before a machine is powered on. The
+//! answer also has the console of the machine, the statement that a source was refused for, and the statement at IR. The contract
+//! says too which inputs the job leaves alone. `ibm1620` answers the status alone, and `ibm1620_read` takes words that were read
+//! before.
+//! `generate` makes a source from two numbers, as the job with that name does.
 #![tactic(auto)]
 
 mod answer;

@@ -52,7 +52,7 @@ pub(crate) fn read_script<const M: u32, H: Host>(
     }
 }
 
-// Runs the machine over the cards of Deck and Data: the turns begin behind the Load key.
+// Runs the machine over the cards of Deck and Data: the turns begin after the Load key.
 fn load_deck<const M: u32, H: Host>(
     alloc: Global,
     host: &mut H,

@@ -1,4 +1,4 @@
-// The job generate: a source is made by numbers.
+// The job generate: a source is made from two numbers.
 ghost use Rattle.std.specs.Prelude.{◌≤◌};
 ghost use Rattle.ibm1620_cli.specs.GenerateJob.{MakesSource};
 ghost use Rattle.command_line.specs.Numbers.{AreNumbers};
@@ -13,7 +13,7 @@ use outside_io::{Host, Sent, Unit, write_all};
 use sps_generator::generate;
 use std::alloc::Global;
 
-// Makes a source of so many statements by a number, writes it, and reports how many they are.
+// Makes a source from two numbers, writes it, and reports how many statements it has.
 pub(crate) fn make_source<H: Host>(alloc: Global, host: &mut H, settings: Settings) -> Answer
     requires fits { AreNumbers settings.statements settings.number }
     ensures promise { MakesSource settings (H.seen host.old) (H.seen host.new) result }

@@ -25,8 +25,8 @@ use operator_script::Script;
 use outside_io::{Host, MemHost};
 use std::alloc::Global;
 
-// Loads a program's deck, whose cards these are and which has the form of the settings, takes the turns under the script from the
-// program's first instruction on, and reports.
+// Loads a program's deck, which has these cards and the form of the settings, takes the turns under the script from the program's
+// first instruction on, and reports how they ended.
 pub(crate) fn run_program<const M: u32, H: Host>(
     alloc: Global,
     host: &mut H,
@@ -56,17 +56,20 @@ pub(crate) fn run_program<const M: u32, H: Host>(
     )
 }
 
-/// The headline: what a run comes to is what the turns come to from the overlaid core on.
+/// The headline: a run does what the turns from the overlaid core on do.
 ///
-/// Take a core of any size, and any program whose digits are good, stand at 00100 or above and lie, as its start does, in it; either form
-/// of its object deck; any script and any limit; any data cards, any text at the keyboard and any pack; and whatever was done before. On
-/// one side the machine is powered on, the Load key is pressed over the program's object deck, behind which the data cards are, the deck's
-/// steps are made, and then the turns are taken. On the other side no card of the deck is read, but all of them are gone: the machine runs
-/// at the program's start from the beginning, with the program's digits over the standard tables and the transfer card in a core of zeros,
-/// the data cards in the hopper, the last-card indicator on exactly where there are none, and all else as at power on. The job is the same:
-/// the status with its count of steps, and all that is done outside, thing by thing: the cards of the deck are taken, and then comes each
-/// byte that is punched, typed or reported, each sector that is written, and each card and each line of Keys that is taken. The call does
-/// nothing; the law is its contract.
+/// Take a core of any size, and any program whose digits are good, lie at 00100 or above and, like its start, lie in that core.
+/// Take either form of its object deck, any script, limit, data cards, text at the keyboard and pack, whatever was done before.
+///
+/// On one side the machine is powered on with the object deck and then the data cards in the hopper. The Load key is pressed, the
+/// deck's steps are made, and then the turns are taken. On the other side the cards of the deck are gone without being read, and
+/// the machine runs at the program's start from the beginning. Its core has the program's digits over the standard tables and the
+/// transfer card, and zeros elsewhere. The data cards are in the hopper, the last-card indicator is on exactly if there are none,
+/// and all else is as at power on.
+///
+/// The job is equal on both sides: the status with its count of steps, and all that is done outside, event by event. The cards of
+/// the deck are taken; then comes each byte that is punched, typed or reported, each sector that is written, and each card and
+/// each line of Keys that is taken. The call does nothing; the law is its contract.
 pub fn headline_law()
     ensures { HeadlineLaw }
 {}
@@ -84,27 +87,27 @@ pub fn headline_over_memory(alloc: Global, words: &[String], host: &mut MemHost)
     answer
 }
 
-/// The prompt: no line of Keys is read before all that stands in front of it is done.
+/// The prompt: no line of Keys is read before all that comes before it in the job's list is done.
 ///
-/// Take any job with a machine, and a host that fails in it, so that the job stopped as `ibm1620` says of a host fault: exactly a first
-/// part of its list was done, and the cards and the lines of Keys that were taken are those of that part. Keys began with some lines of at
-/// most 80 bytes, each with a LF and no CR before it; more stands behind them, and that is what Keys has left. It was not asked before the
-/// job, and as it was asked last it gave as many bytes as the last of these lines has with its LF, as a terminal gives one line at a time.
-/// Then all these lines are in the part that was done, and with them all that stands in front of the last of them, as the text that a
-/// program types before it reads. The call does nothing; the law is its contract.
+/// Take any job with a machine, and a host that fails in it, so that the job stopped as `ibm1620` says of a host fault. Exactly a
+/// first part of its list was done, and the cards and the lines of Keys that were taken are those in that part. Keys began with
+/// some lines of at most 80 bytes, each with a LF and no CR before it; more bytes follow, and Keys still has these. Keys was not
+/// asked before the job. Its last answer gave as many bytes as the last of these lines has with its LF, as a terminal gives one
+/// line at a time. Then all these lines are in the part that was done, and so is all that comes before the last of them, as the
+/// text that a program types before it reads. The call does nothing; the law is its contract.
 pub fn prompt_law()
     ensures { PromptLaw }
 {}
 
-/// The round trip: the object deck of a source, given as a deck, comes to what a run of the source comes to.
+/// The round trip: the object deck of a source, given as a deck, does what a run of the source does.
 ///
-/// Take a core of any size, any source that breaks no rule for it, either form of its object deck, any data cards, any text at the keyboard
-/// and any pack. The bytes that `assemble` leaves on Object are, as those of Deck, the cards of that deck and no others. So many turns
-/// behind the Load key as the deck has steps, a `load` of them stands at the very place from which `run` begins, those steps being counted,
-/// where no line of the script is due before and the limit is not below. And with that number added to the limit and to each `AT` line, the
-/// load ends where the run ends, with that many steps more counted; and it takes the cards of the deck, and then punches, types, writes to
-/// the pack and takes of cards and of Keys what the run does from there, thing by thing, and nothing else. The call does nothing; the law is
-/// its contract.
+/// Take a core of any size, any source that breaks no rule for it, either form of its object deck, any data cards, any text at
+/// the keyboard and any pack. The bytes that `assemble` leaves on Object, given as Deck, are the cards of that deck and no
+/// others. Let n be the number of the deck's steps. If no line of the script is due before and the limit is at least n, then n
+/// turns after the Load key a `load` of the deck is at the very place from which `run` begins, with n steps counted. With n added
+/// to the limit and to each `AT` line, the load ends where the run ends, with n more steps counted. It takes the cards of the
+/// deck. Then it punches, types, writes to the pack, and takes cards and lines of Keys as the run does from there, event by
+/// event, and does nothing else. The call does nothing; the law is its contract.
 pub fn trip_law()
     ensures { RoundTripLaw }
 {}

@@ -7,7 +7,7 @@ use crate::status::Status;
 use outside_io::{Host, ReadAll, Unit, read_all};
 use std::alloc::Global;
 
-// Reads all bytes of a unit that has so many at most; the error is the status of a job without them.
+// Reads all bytes of a unit, at most `longest` of them; the error is the status of a job without them.
 pub(crate) fn read_text<H: Host>(
     alloc: Global,
     host: &mut H,

@@ -21,14 +21,14 @@ use std::alloc::{AllocError, Global};
 // How many bytes a source has at most.
 const LONGEST_SOURCE: usize = 4_000_000;
 
-// A source that breaks no rule, and what was assembled of it.
+// A source that breaks no rule, with its assembly.
 #[derive(Drop)]
 pub(crate) struct SoundSource {
     pub(crate) source: Vec<u8>,
     pub(crate) assembled: Assembled,
 }
 
-// Reads the source and assembles it; the error is the answer of a job that has none, and was reported.
+// Reads the source and assembles it; the error is the answer of the job, which ends here.
 pub(crate) fn read_source<const M: u32, H: Host>(
     alloc: Global,
     host: &mut H,
@@ -42,7 +42,7 @@ pub(crate) fn read_source<const M: u32, H: Host>(
     }
 }
 
-// Assembles a source; the error is the answer of a job whose source is refused, and was reported, or for which there was no memory.
+// Assembles a source; the error is the answer of a job whose refused source was reported, or that found no memory.
 pub(crate) fn assemble_or_refuse<const M: u32, H: Host>(
     alloc: Global,
     host: &mut H,
@@ -64,7 +64,7 @@ pub(crate) fn assemble_or_refuse<const M: u32, H: Host>(
     }
 }
 
-// Reports the first broken statement, and what the refusal shows of it, and answers it; its line is made before anything is reported.
+// Reports and answers the first broken statement with its details. The line of the answer is made before anything is reported.
 fn refuse<H: Host>(
     alloc: Global,
     host: &mut H,
@@ -90,7 +90,7 @@ fn refuse<H: Host>(
     }
 }
 
-// Writes the object deck in a form, the image and the listing of a source that breaks no rule; these are the cards of the deck.
+// Writes the object deck in a form, the image and the listing of a source that breaks no rule; the result is the deck's cards.
 pub(crate) fn write_source<const M: u32, H: Host>(
     alloc: Global,
     host: &mut H,

@@ -8,7 +8,7 @@ use crate::status::Status;
 use cpu_step::Console;
 use sps_listing::{StandingLine, standing_line, statement_at};
 
-// The answer of a job, with the statement of its source at IR of the console; after a fault of the host it has none.
+// The answer of a job, with the statement of its source at IR of the console; after a fault of the host there is no statement.
 pub(crate) fn with_statement(sound: &SoundSource, answer: Answer) -> Answer
     ensures { AddsStatement (program_of_sound sound.now) answer result }
 {
@@ -22,7 +22,7 @@ pub(crate) fn with_statement(sound: &SoundSource, answer: Answer) -> Answer
     }
 }
 
-// The statement of a source at IR of a console, where one stands there.
+// The statement of a source at IR of a console, if there is one.
 fn statement_shown(sound: &SoundSource, shown: &Option<Console>) -> Option<StandingLine>
     ensures { ShowsStatement (Some (program_of_sound sound.now)) shown.now result }
 {

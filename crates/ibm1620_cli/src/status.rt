@@ -46,12 +46,12 @@ pub enum Status {
     },
     /// Code 1: a statement of the source breaks a rule.
     Refused {
-        /// The number of the first such statement, counted from 1.
+        /// The number of the first statement that breaks a rule, counted from 1.
         statement: u32,
         /// The least rule that it breaks.
         rule: Rule,
     },
-    /// Code 2: the words are not of the plain form.
+    /// Code 2: the words are not plain.
     Usage,
     /// Code 3: an instruction stopped the machine.
     CheckStop {
@@ -69,7 +69,7 @@ pub enum Status {
     },
     /// Code 5: a card was to be read, and none was left.
     NeedCards {
-        /// The address of the instruction; 00000 where the Load key found no card.
+        /// The address of the instruction; 00000 if the Load key found no card.
         at: u32,
         /// How many instructions were executed, the last one included.
         steps: u64,
@@ -81,7 +81,7 @@ pub enum Status {
         /// How many instructions were executed, the last one included.
         steps: u64,
     },
-    /// Code 7: the host failed, as where a file is missing.
+    /// Code 7: the host failed, for example because a file is missing.
     HostFault,
     /// Code 8: there was no memory.
     OutOfMemory,
@@ -94,7 +94,7 @@ pub enum Status {
     },
     /// Code 10: the operator's script has a line outside its grammar.
     BadScript {
-        /// The number of the first such line, counted from 1.
+        /// The number of the first bad line, counted from 1.
         line: u64,
     },
     /// Code 11: an input has too many bytes.
@@ -106,7 +106,7 @@ pub enum Status {
     SessionEnded,
     /// Code 13: the debugger's commands have a line outside their grammar.
     BadCommand {
-        /// The number of the first such line, counted from 1.
+        /// The number of the first bad line, counted from 1.
         line: u64,
     },
 }
@@ -137,8 +137,8 @@ impl Status {
         }
     }
 
-    /// The report line, with its LF; it is empty where nothing is reported, after a fault of the host and for want of memory. That of a
-    /// refusal has the statement and the rule; what the refusal shows of the statement stands on Report alone.
+    /// The report line, with its LF; it is empty after a fault of the host and if memory was lacking, since nothing is reported
+    /// then. The line of a refusal has the statement's number and the rule; its details of the statement are on Report alone.
     pub fn line(&self) -> ArrayString<LONGEST_LINE>
         ensures { result.bytes ≡ report_line self.now }
     {

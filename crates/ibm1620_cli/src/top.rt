@@ -26,16 +26,17 @@ use command_line::{Command, CoreSize, Plain, Read};
 use outside_io::{Bound, Host};
 use std::alloc::{AllocError, Global};
 
-/// Does what the words behind the program's name say, over any host in which no unit is in use and no output has been given a byte, and answers
-/// how that ended, with the machine's console, the statement of a refused source, and the statement at IR.
+/// Does what the words after the program's name say, over any host. No unit of the host is in use, and no output has been given a
+/// byte. The answer is how that ended, with the machine's console, the statement of a refused source, and the statement at IR.
 ///
-/// - `told`: all that is done outside is one list, by the words and the inputs; after a fault of the host a first part of it is done. `HostFault`
-///   comes only where a call of the host failed, and `OutOfMemory` before a machine is powered on. Even if the host does not reveal the input of
-///   the machine, the status is one with which such a job may end, and Object, Image and Listing have what they had at power on.
+/// - `told`: all that is done outside is one list, by the words and the inputs; after a fault of the host a first part of it is
+///   done. `HostFault` comes only if a call of the host failed, and `OutOfMemory` only before a machine is powered on. Even if
+///   the host does not reveal the input of the machine, the status is one of the possible endings of the job, and Object, Image
+///   and Listing have the bytes that they had at power on.
 /// - `bound`: files are bound in the order of units, each to the unit that its option names, and no other.
 /// - `unread`: an input that the command does not read keeps all that it had and is not asked; a pack that it doesn't work with keeps its sectors.
 /// - `headline`: a source that breaks no rule runs as its image says, by the table of instructions.
-/// - `trial`, `session`: the ways in which a trial ends, and a session, whatever the host reveals of the input of the machine.
+/// - `trial`, `session`: the possible endings of a trial and of a session, whatever the host reveals of the input of the machine.
 /// - `trip`, `disk_trip`: a deck that `assemble` or `disk` punched does, when it is loaded, what its program does.
 ///
 /// docs/promises.md says each of these in full under 'The whole program', and docs/formats.md which words are plain.
@@ -53,7 +54,7 @@ pub fn ibm1620_answer<H: Host>(alloc: Global, words: &[String], host: &mut H) ->
     ibm1620_read(alloc, &Read::of(alloc, words), host)
 }
 
-/// Does what the words say that were read, over any host: all that [`ibm1620_answer`] says of the words holds of those.
+/// Does the job of words that were read before, over any host; the contract is the contract of [`ibm1620_answer`].
 ///
 /// No unit of the host is in use, and no output has been given a byte.
 pub fn ibm1620_read<H: Host>(alloc: Global, read: &Read<'_>, host: &mut H) -> Answer
@@ -67,8 +68,8 @@ pub fn ibm1620_read<H: Host>(alloc: Global, read: &Read<'_>, host: &mut H) -> An
     }
 }
 
-/// Does what the words say, over any host, and answers how that ended: the status of what [`ibm1620_answer`] answers, which says all of what
-/// is done.
+/// Does what the words say, over any host, and answers the status of [`ibm1620_answer`] alone. Its contract says all that is
+/// done.
 ///
 /// No unit of the host is in use, and no output has been given a byte.
 pub fn ibm1620<H: Host>(alloc: Global, words: &[String], host: &mut H) -> Status
@@ -99,7 +100,7 @@ fn bind_and_do<H: Host>(alloc: Global, host: &mut H, plain: Plain<'_>) -> Answer
     }
 }
 
-// Does the job of a command, once its files are bound.
+// Does the job of a command, after its files were bound.
 fn do_job<H: Host>(alloc: Global, host: &mut H, plain: Plain<'_>) -> Answer
     ensures told { DoesJob (meaning_of plain.entry) (H.seen host.old) (H.seen host.new) result }
     ensures stays { LeavesUnread (reads (meaning_of plain.entry).command) (H.seen host.old).world (H.seen host.new).world }
@@ -111,7 +112,7 @@ fn do_job<H: Host>(alloc: Global, host: &mut H, plain: Plain<'_>) -> Answer
     }
 }
 
-// Does it with so many modules of core.
+// Does the job with `M` modules of core.
 fn do_job_in<const M: u32, H: Host>(alloc: Global, host: &mut H, plain: Plain<'_>) -> Answer
     requires { IsSize M }
     ensures told { DoesJobIn M (meaning_of plain.entry) (H.seen host.old) (H.seen host.new) result }

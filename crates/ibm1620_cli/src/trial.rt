@@ -1,4 +1,4 @@
-// The job trial: a source is made by numbers, assembled and run, and a line says how much that was.
+// The job trial: a source is made from two numbers, assembled and run, and a line reports its numbers, cards and steps.
 ghost use Rattle.std.specs.Prelude.{◌≡◌};
 ghost use Rattle.digit_core.specs.Size.{size};
 ghost use Rattle.ibm1620_cli.specs.TrialJob.{TriesSource, TriesAssembled, trial_line, trial_modules, steps_of};
@@ -20,7 +20,7 @@ use report_lines::{LONGEST_LINE, push_count, push_number};
 use sps_generator::generate;
 use std::alloc::Global;
 
-// Makes a source of so many statements by a number, assembles it, runs its program, and answers with the statement at IR.
+// Makes a source from two numbers, assembles it, runs its program, and answers with the statement at IR.
 pub(crate) fn try_source<H: Host>(alloc: Global, host: &mut H, settings: Settings) -> Answer
     requires fits { AreNumbers settings.statements settings.number }
     ensures promise { TriesSource settings (H.seen host.old) (H.seen host.new) result }
@@ -71,7 +71,7 @@ fn try_assembled<H: Host>(
     }
 }
 
-// Adds the line of a trial behind the report line of a status that counts steps.
+// Adds the line of a trial after the report line of a status that counts steps.
 fn report_trial<H: Host>(host: &mut H, status: Status, settings: Settings, cards: u32) -> Status
     ensures { ReportsTrial settings cards
         (H.seen host.old) (H.seen host.new) status result }

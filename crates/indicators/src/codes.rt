@@ -1,4 +1,4 @@
-// The codes of the switches and indicators, by which branch instructions name them.
+// The codes of the switches and indicators in branch instructions.
 
 /// The code 01: program switch 1.
 ///

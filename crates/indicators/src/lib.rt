@@ -1,4 +1,4 @@
-//! The panel of the console: switches and indicators, each with the code that a branch instruction names it by.
+//! The panel of the console: switches and indicators, each with its code in branch instructions.
 #![tactic(auto)]
 
 ghost use Rattle.std.specs.Prelude.{◌≡◌, IsTrue};
@@ -13,7 +13,7 @@ pub use codes::{
 };
 
 /// The switches and indicators of the console. A program switch or an indicator that is true is on, a check switch that is true
-/// stands at STOP.
+/// is at STOP.
 ///
 /// Source: CPU manual, console switches and indicators; which of them this panel has is this project's own.
 #[derive(Clone, Copy, Debug, PartialEq, Eq)]
@@ -30,13 +30,13 @@ pub struct Panel {
     pub read_check: bool,
     /// 07: write check, a character that was to be written is invalid.
     pub write_check: bool,
-    /// 09: last card, no byte was left behind the card that was read.
+    /// 09: last card, no byte was left after the card that was read.
     pub last_card: bool,
-    /// 11: high or positive, the last result was over zero, or the field at P was the greater one.
+    /// 11: high or positive, the last result was over zero, or the field at P was greater.
     pub high: bool,
     /// 12: equal or zero, the last result was zero, or the two fields were equal.
     pub equal: bool,
-    /// 14: overflow, a sum had a carry past its field, or the field at Q was the longer one.
+    /// 14: overflow, a sum had a carry past its field, or the field at Q was longer.
     pub overflow: bool,
     /// 16: a cell of even parity at an even address (MBR-even check).
     pub even_parity: bool,
@@ -58,7 +58,7 @@ impl Panel {
     ghost use Rattle.indicators.specs.Panel.{on, set, is_settable, with_checks, dark};
     ghost use Rattle.indicators.specs.Lamps.{panel_after_test, with_result, panel_for_load};
 
-    /// The panel after power on: all switches and indicators are off, the check switches stand at PROGRAM.
+    /// The panel after power on: all switches and indicators are off, the check switches are at PROGRAM.
     ///
     /// Source: this project's own.
     pub fn new() -> Panel
@@ -87,8 +87,8 @@ impl Panel {
 
     /// Whether the switch or indicator of a code is on.
     ///
-    /// 13 is on where 11 or 12 is, 19 where any of 06, 07, 16 and 17 is, and 39 where any of 36, 37 and 38 is. A code that no switch
-    /// and no indicator has reads as off.
+    /// 13 is on if 11 or 12 is, 19 if any of 06, 07, 16 and 17 is, and 39 if any of 36, 37 and 38 is. A code without a switch or
+    /// an indicator reads as off.
     /// Source: CPU manual, branch indicator; which indicators 19 and 39 join, and that other codes read as off, is this project's own.
     #[tactic(auto, unfolding(crate::specs::Panel::on))]
     pub fn on(&self, code: u8) -> bool
@@ -117,9 +117,9 @@ impl Panel {
         }
     }
 
-    /// Whether the switch or indicator of a code is on, as a branch instruction asks: 06, 07, 09, 14, 36, 37 and 38 go off by it.
+    /// Whether the switch or indicator of a code is on, by the test of a branch instruction.
     ///
-    /// All others stay. A test of 13, 19 or 39 turns nothing off.
+    /// A test of 06, 07, 09, 14, 36, 37 or 38 turns this indicator off. All others stay; 13, 19 and 39 turn nothing off.
     /// Source: CPU manual, branch indicator; when indicators go off is this project's own.
     #[tactic(auto, unfolding(crate::specs::Panel::goes_off))]
     pub fn test(&mut self, code: u8) -> bool
@@ -191,7 +191,7 @@ impl Panel {
         (self.overflow_stops, self.in_out_stops)
     }
 
-    /// Shows the result of a sum or a comparison: 12 is on where it is zero, 11 where it is neither zero nor negative. All else stays.
+    /// Shows the result of a sum or a comparison: 12 is on if it is zero, 11 if it is neither zero nor negative. All else stays.
     ///
     /// Source: CPU manual, arithmetic indicators; when they are set is this project's own.
     pub fn set_result(&mut self, zero: bool, negative: bool)
@@ -201,7 +201,7 @@ impl Panel {
         self.set(HIGH, !zero && !negative);
     }
 
-    /// Turns off what the Load key turns off: 06, 07, 09, 11, 12, 14, 16, 17, 36, 37 and 38. All switches stay.
+    /// Turns off the indicators that the Load key turns off: 06, 07, 09, 11, 12, 14, 16, 17, 36, 37 and 38. All switches stay.
     ///
     /// Source: this project's own.
     #[tactic(auto, unfolding(crate::specs::Panel::set))]

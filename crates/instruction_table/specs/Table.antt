@@ -61,7 +61,7 @@ named_instructions =
 abbrev pub instructions : List InstructionRow
 instructions = map (λ r. r.1) named_instructions
 
--- what a row says
+-- the parts of a row
 abbrev pub code_of : InstructionRow → ℕ
 code_of r = r.0
 
@@ -82,12 +82,12 @@ row_in (r ∷ rs) code = if code_of r == code then Some r else row_in rs code
 abbrev pub instruction_of : ℕ → Option InstructionRow
 instruction_of code = row_in instructions code
 
--- each of a list stands once
+-- no element of a list occurs twice
 abbrev pub once : {A : Type 0} → (A → A → Bool) → List A → Bool
 once same [] = true
 once same (x ∷ xs) = not (list_any (same x) xs) && once same xs
 
--- no code and no mnemonic stands twice
+-- no code and no mnemonic occurs twice
 abbrev pub codes_once : Type 0
 codes_once = once (λ a b. a == b) (map code_of instructions) ≡ true
 
@@ -106,7 +106,7 @@ takes_field OddFirst = false
 takes_field Neither = false
 takes_field FirstByDevice = false
 
--- the codes of such instructions
+-- the codes of the instructions whose Q is a field in the instruction itself
 abbrev codes_in : List InstructionRow → List ℕ
 codes_in [] = []
 codes_in (r ∷ rs) = if takes_field (uses_of r) then code_of r ∷ codes_in rs else codes_in rs

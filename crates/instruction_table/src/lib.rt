@@ -1,7 +1,7 @@
-//! The table of instructions: the code, the mnemonic and the operation of each, the operands that it uses, and what it may store.
+//! The table of instructions: each with its code, mnemonic, operation, the operands that it uses and the cells that it may store.
 //!
-//! The machine and the assembler go by this one table, and their definitions by the rows of `specs/Table.antt`: [`instruction_law`] says
-//! that both are the same. The table says nothing of what an operation does.
+//! The machine and the assembler use this one table, and their definitions use the rows of `specs/Table.antt`:
+//! [`instruction_law`] says that both have the same rows. The table doesn't say how an operation works.
 #![tactic(auto)]
 
 ghost use Rattle.std.specs.Prelude.{◌≡◌, map};
@@ -17,8 +17,8 @@ use crate::OperandUse::{
     Both, Digit, Field, First, FirstByDevice, Indicator, Neither, OddBoth, OddFirst,
 };
 
-/// The operations of the machine, each by its mnemonic. Instructions that do the same over a second operand that stands elsewhere, as A and AM, have one operation:
-/// where the operand stands, their column says.
+/// The operations of the machine, each by its mnemonic. Instructions that differ only in the place of their second operand, as A
+/// and AM, have one operation; the table's column of operands gives this place.
 ///
 /// Source: CPU manual, operation codes.
 #[derive(Clone, Copy, Debug, PartialEq, Eq)]
@@ -33,7 +33,7 @@ pub enum Op {
     Move(MoveOp),
     /// An operation of a special feature.
     Feature(FeatureOp),
-    /// Goes on elsewhere, always or by a test.
+    /// A branch: goes to another address, always or after a test.
     Branch(BranchOp),
     /// Control: of the typewriter, or a seek of the disk.
     K,
@@ -77,9 +77,9 @@ pub enum MoveOp {
 pub enum FeatureOp {
     /// Move flag: the flag of the digit at Q moves to P.
     Mf,
-    /// Transmit numerical strip: the pairs at P come to the field at Q without their zones.
+    /// Transmit numerical strip: the pairs at P become the field at Q, without their zones.
     Tns,
-    /// Transmit numerical fill: the field at Q comes to the pairs at P.
+    /// Transmit numerical fill: the field at Q becomes the pairs at P.
     Tnf,
 }
 
@@ -88,23 +88,23 @@ pub enum FeatureOp {
 /// Source: CPU manual, branch instructions.
 #[derive(Clone, Copy, Debug, PartialEq, Eq)]
 pub enum BranchOp {
-    /// Branch and transmit: the field at Q moves to P-1, IR-2 keeps the next instruction's address, and P is gone to.
+    /// Branch and transmit: copies the field at Q to P-1, keeps the next instruction's address in IR-2, and goes to P.
     Bt,
-    /// Branch back: IR-2 is gone to.
+    /// Branch back: goes to the address in IR-2.
     Bb,
-    /// Branch on digit: P is gone to where the value at Q is not 0.
+    /// Branch on digit: goes to P if the value at Q is not 0.
     Bd,
-    /// Branch no flag: P is gone to where the digit at Q has no flag.
+    /// Branch no flag: goes to P if the digit at Q has no flag.
     Bnf,
-    /// Branch no record mark: P is gone to where the value at Q is not 10.
+    /// Branch no record mark: goes to P if the value at Q is not 10.
     Bnr,
-    /// Branch no group mark: P is gone to where the value at Q is not 15.
+    /// Branch no group mark: goes to P if the value at Q is not 15.
     Bng,
-    /// Branch indicator: the indicator Q8 Q9 is tested, and P is gone to where it was on.
+    /// Branch indicator: tests the indicator Q8 Q9, and goes to P if it was on.
     Bi,
-    /// Branch no indicator: the indicator Q8 Q9 is tested, and P is gone to where it was off.
+    /// Branch no indicator: tests the indicator Q8 Q9, and goes to P if it was off.
     Bni,
-    /// Branch: P is gone to.
+    /// Branch: goes to P.
     B,
 }
 
@@ -115,7 +115,7 @@ pub enum BranchOp {
 pub enum OperandUse {
     /// P and Q, each worked out through its chain.
     Both,
-    /// The same, of which P must be odd.
+    /// P and Q, each worked out through its chain; P must be odd.
     OddBoth,
     /// P, and as the second a field whose units are Q11, in the instruction itself.
     Field,
@@ -123,9 +123,9 @@ pub enum OperandUse {
     Digit,
     /// P, and the indicator that Q8 and Q9 name.
     Indicator,
-    /// P alone.
+    /// Only P.
     First,
-    /// P alone, which must be odd.
+    /// Only P, which must be odd.
     OddFirst,
     /// Neither.
     Neither,
@@ -133,14 +133,14 @@ pub enum OperandUse {
     FirstByDevice,
 }
 
-/// The cells that an instruction may store, in so far as its operands tell them.
+/// The cells that an instruction may store, as far as its operands determine them.
 ///
 /// Source: CPU manual, operation codes; the special features are this project's own.
 #[derive(Clone, Copy, Debug, PartialEq, Eq)]
 pub enum MayStore {
     /// None.
     Nothing,
-    /// The one at P.
+    /// The cell at P.
     Cell,
     /// A field downwards from P.
     Down,
@@ -150,14 +150,14 @@ pub enum MayStore {
     DownFromQ,
     /// A record upwards from P.
     Up,
-    /// Any: the operands do not tell.
+    /// Any: the operands do not determine them.
     Anywhere,
     /// None or any, by the device that Q8 and Q9 name.
     ByDevice,
 }
 
-/// What the table says of an instruction, behind its mnemonic: its operation code, 11 to 73; its operation; the operands that it uses; and
-/// the cells that it may store.
+/// The row of an instruction, to the right of its mnemonic: its operation code, 11 to 73; its operation; the operands that it
+/// uses; and the cells that it may store.
 ///
 /// Source: CPU manual, operation codes; the special features are this project's own.
 #[derive(Clone, Copy, Debug, PartialEq, Eq)]
@@ -203,7 +203,7 @@ pub static INSTRUCTIONS: [(&str, InstructionRow); 34] = [
     ("TNF", InstructionRow(73, Feature(Tnf), OddBoth, Down)),
 ];
 
-/// The row of an operation code, or `None` where the table has no such code.
+/// The row of an operation code, or `None` if the table has no such code.
 ///
 /// Source: CPU manual, operation codes; the special features are this project's own.
 pub fn instruction_of(code: u8) -> Option<InstructionRow>
@@ -224,8 +224,9 @@ fn row_in(rows: &[(&str, InstructionRow)], code: u8) -> Option<InstructionRow>
     None
 }
 
-/// The law of the table: its rows are those of the definition, no code and no mnemonic is in it twice, and the instructions with a field
-/// in Q are the ones on whose Q7 the assembler sets a flag if their flag operand is empty.
+/// The law of the table: its rows equal the rows of the definition, and no code and no mnemonic occurs twice. The instructions
+/// whose Q is a field in the instruction are AM, SM, CM, TFM and BTM: if their flag operand is empty, the assembler sets a flag
+/// on their Q7.
 ///
 /// Source: CPU manual, operation codes; which codes get a flag on Q7 is this project's own.
 pub fn instruction_law()

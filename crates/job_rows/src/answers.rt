@@ -1,5 +1,5 @@
-// What an answer has besides its status, as it is shown: the console of its machine, the statement that its source was refused for, and the
-// one that stands at IR.
+// The parts of an answer other than its status, as they are shown: the console of its machine, the statement for which its source was
+// refused, and the statement at IR.
 use crate::texts::shown_line;
 use card_code::{BadCharacter, Tally};
 use cpu_step::{CheckPart, Console};
@@ -15,7 +15,7 @@ pub(crate) enum AnswerPart {
     Console,
     Refusal,
     Statement,
-    // What is said of the whole job.
+    // The messages of the whole job.
     Said,
 }
 
@@ -60,7 +60,7 @@ fn switches_of(panel: &Panel) -> [Lamp; 4] {
     ]
 }
 
-// The codes of those that are on, a comma between two; a hyphen where none is.
+// The codes of the lamps that are on, a comma between two; a hyphen if all are off.
 fn codes(alloc: Global, lamps: &[Lamp]) -> Result<String, AllocError> {
     let mut text = String::new(alloc);
     for (code, on) in lamps {
@@ -76,7 +76,7 @@ fn codes(alloc: Global, lamps: &[Lamp]) -> Result<String, AllocError> {
     Ok(text)
 }
 
-// Which check switches stand at STOP.
+// Which check switches are at STOP.
 fn stops_of(panel: &Panel) -> &'static str {
     match (panel.overflow_stops, panel.in_out_stops) {
         (false, false) => "-",
@@ -86,8 +86,8 @@ fn stops_of(panel: &Panel) -> &'static str {
     }
 }
 
-// The object character of a cell, which is a number `32C + 16F + V`; a question mark for a bad one, whose parity is even or whose value is
-// no digit's.
+// The object character of a cell, which is a number `32C + 16F + V`; a question mark for a bad cell, whose parity is even or whose value
+// is not a digit's.
 fn cell_char(cell: u8) -> char {
     let (plain, flagged) = match cell & 15 {
         0 => ('0', ']'),
@@ -112,7 +112,7 @@ fn cell_char(cell: u8) -> char {
     }
 }
 
-// The twelve cells as object characters; a hyphen where they don't all lie in core.
+// The twelve cells as object characters; a hyphen if they don't all lie in core.
 fn cells_text(alloc: Global, cells: &Option<[u8; 12]>) -> Result<String, AllocError> {
     let mut text = String::new(alloc);
     match cells {
@@ -126,7 +126,7 @@ fn cells_text(alloc: Global, cells: &Option<[u8; 12]>) -> Result<String, AllocEr
     Ok(text)
 }
 
-// The cylinders where the arms stand, a comma between two.
+// The cylinders of the arms, a comma between two.
 fn arms_text(alloc: Global, arms: &[u32]) -> Result<String, AllocError> {
     let mut text = String::new(alloc);
     for cylinder in arms {
@@ -147,7 +147,7 @@ fn unit_name(unit: Unit) -> &'static str {
     }
 }
 
-// How many bad characters there were, and where the first of them stands.
+// How many bad characters there were, and the place of the first.
 fn tally_text(alloc: Global, tally: &Tally) -> Result<String, AllocError> {
     let count = tally.count;
     match &tally.first {
@@ -174,7 +174,7 @@ fn address_text(alloc: Global, address: Option<u32>) -> Result<String, AllocErro
     }
 }
 
-// The part of an instruction that a check is about, behind a blank; nothing without one.
+// The part of an instruction that a check is about, after a blank; nothing if there is no such part.
 fn part_text(alloc: Global, part: Option<CheckPart>) -> Result<String, AllocError> {
     match part {
         None => Ok(String::new(alloc)),
@@ -191,7 +191,7 @@ fn part_text(alloc: Global, part: Option<CheckPart>) -> Result<String, AllocErro
     }
 }
 
-// Prints the console of an answer as one line: names and values in turn.
+// Prints the console of an answer as one line: each value after its name.
 pub(crate) fn show_console(
     rt: &impl Print,
     alloc: Global,
@@ -217,7 +217,7 @@ pub(crate) fn show_console(
     println!(rt; " BAD CARDS {bad_cards} BAD KEYS {bad_keys}")
 }
 
-// Prints the other statement of a refusal: its number, the rule that it breaks itself, a hyphen for none, how many bytes its line has, and then
+// Prints the other statement of a refusal: its number, the rule that it breaks itself or a hyphen, how many bytes its line has, and then
 // the line.
 fn show_other(rt: &impl Print, alloc: Global, other: &OtherStatement) -> io::Result<()> {
     let (statement, bytes) = (other.statement, other.bytes);
@@ -230,7 +230,7 @@ fn show_other(rt: &impl Print, alloc: Global, other: &OtherStatement) -> io::Res
     println!(rt; "other line|{}", shown_line(alloc, &other.text)?)
 }
 
-// Prints the statement that stands at IR: its number and how many bytes its line has, and then the line.
+// Prints the statement at IR: its number and how many bytes its line has, and then the line.
 pub(crate) fn show_statement(
     rt: &impl Print,
     alloc: Global,
@@ -244,8 +244,8 @@ pub(crate) fn show_statement(
     println!(rt; "statement line|{}", shown_line(alloc, &standing.text)?)
 }
 
-// Prints the statement that a source was refused for: its number, its rule, the operand part that breaks it and how many bytes its line
-// has, and then the line; behind that the other statement that the refusal is about, where there is one.
+// Prints the statement for which a source was refused: its number, its rule, the operand part that breaks it and how many bytes its line
+// has, and then the line. If the refusal is also about another statement, that statement follows.
 pub(crate) fn show_refusal(
     rt: &impl Print,
     alloc: Global,

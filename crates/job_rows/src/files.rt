@@ -1,4 +1,4 @@
-// The files of a job, and the pack as it is before.
+// The files of a job, and its pack before the job.
 ghost use Rattle.std.specs.Prelude.{IfOk, ◌≤◌};
 ghost use Rattle.outside_io.specs.declared.host.TheConstants.{ALL_SECTORS};
 ghost use Rattle.outside_io.specs.World.{IsFresh};
@@ -25,7 +25,7 @@ pub(crate) struct Files {
 }
 
 impl Files {
-    // Files without a byte.
+    // Empty files.
     pub(crate) fn new(alloc: Global) -> Files {
         Files {
             alloc,
@@ -70,7 +70,7 @@ impl Files {
         self.add_bytes(Unit::Deck, cards)
     }
 
-    // Adds all sectors of a host to the pack's file, up to the last one that is not blank.
+    // Adds all sectors of a host to the pack's file, up to the last sector that is not blank.
     pub(crate) fn add_pack(&mut self, host: &MemHost) -> Result<(), AllocError> {
         for a in 0..sectors_up_to_the_last(host) {
             self.add_bytes(Unit::Pack, &host.sector(a))?;
@@ -78,7 +78,7 @@ impl Files {
         Ok(())
     }
 
-    // Adds a sector that is written before the job begins; characters that a text has not are zeros.
+    // Adds a sector that is written before the job begins; characters that the text lacks are zeros.
     pub(crate) fn add_sector(&mut self, a: u32, text: &str) -> Result<(), NotTaken> {
         let mut bytes = Vec::new(self.alloc);
         add_bytes(&mut bytes, text)?;
@@ -92,7 +92,7 @@ impl Files {
         Ok(())
     }
 
-    // A sector as the job finds it: that of the pack's file where the pack is bound, else the one that was written before.
+    // A sector as the job finds it: from the pack's file if the pack is bound, else the sector that was written before.
     pub(crate) fn sector_before(&self, is_bound: bool, a: u32) -> Sector {
         if is_bound {
             return sector_in(self.bytes(Unit::Pack), a);
@@ -106,7 +106,7 @@ impl Files {
         found
     }
 
-    // A host in memory with these files and sectors, whose outputs take so many bytes each.
+    // A host in memory with these files and sectors, whose outputs take `room` bytes each.
     pub(crate) fn host(&self, room: usize) -> Result<MemHost, AllocError>
         ensures { IfOk result (λ host. IsFresh (mem_world host)) }
     {
@@ -134,7 +134,7 @@ impl Files {
     }
 }
 
-// How many sectors a host has up to the last one that is not blank.
+// How many sectors a host has up to the last sector that is not blank.
 fn sectors_up_to_the_last(host: &MemHost) -> u32
     ensures { result ≤ ALL_SECTORS }
 {

@@ -1,4 +1,4 @@
-// A job: what a row says of it, and how it is done.
+// A job: its settings in a row, and how it is done.
 ghost use Rattle.std.specs.Prelude.{IfOk};
 ghost use Rattle.outside_io.specs.World.{IsFresh};
 ghost use Rattle.outside_io.specs.Mem.{mem_world};
@@ -12,7 +12,7 @@ use ibm1620_cli::{Answer, ibm1620_answer};
 use outside_io::{MemHost, Unit};
 use std::alloc::{AllocError, Global};
 
-// The room of each output where a row names none, in bytes.
+// The room of each output if a row sets none, in bytes.
 const ROOM: u32 = 40_000;
 
 // How a job is done.
@@ -20,37 +20,37 @@ const ROOM: u32 = 40_000;
 pub(crate) enum Way {
     // Once, over a host in memory.
     Once,
-    // Over a host that shows nothing.
+    // Over a host that reveals nothing.
     Quiet,
-    // Once for each of its calls, which fails.
+    // Once for each of its calls: this call then fails.
     Turns,
 }
 
-// What a row says of its job.
+// The settings of a row's job.
 #[derive(Drop)]
 pub(crate) struct Job {
     pub(crate) alloc: Global,
     // What the row shows, in plain words.
     pub(crate) row: String,
     pub(crate) way: Way,
-    // The outputs whose texts are shown, all where the row names none, and those whose bytes are counted.
+    // The outputs whose texts are shown, all if the row has no line `show|`, and the outputs whose bytes are counted.
     pub(crate) shown: Option<Vec<Unit>>,
     pub(crate) counted: Vec<Unit>,
-    // The parts of the answer that are shown besides its status.
+    // The parts of the answer that are shown in addition to its status.
     pub(crate) asked: Vec<AnswerPart>,
-    // Whether the console is asked for where a message is said.
+    // Whether the user asks for the console in the messages.
     asks_console: bool,
     pub(crate) files: Files,
     // The number of the call that fails.
     pub(crate) failing: Option<u64>,
     words: Vec<String>,
     room: u32,
-    // The host of the row before, where its job was done over one in memory.
+    // The host of the row before, if its job was done over a host in memory.
     before: Option<MemHost>,
 }
 
 impl Job {
-    // A job without words and files, behind that of the row before.
+    // A job without words and files, after the job of the row before.
     pub(crate) fn behind(alloc: Global, before: Option<MemHost>) -> Job {
         Job {
             alloc,
@@ -68,9 +68,9 @@ impl Job {
         }
     }
 
-    // Takes a line of the row. One that is not known is shown with the row, so that it is not what is wanted.
+    // Takes a line of the row. A line that is not known is shown with the row, so that the row's output is not the wanted one.
     //
-    // The error is want of memory.
+    // The error is a lack of memory.
     pub(crate) fn add(&mut self, line: &str) -> Result<(), AllocError> {
         match self.take(line) {
             Ok(()) => Ok(()),
@@ -113,7 +113,7 @@ impl Job {
         Ok(())
     }
 
-    // Adds words, which stand apart by blanks.
+    // Adds words, which are separated by blanks.
     fn add_words(&mut self, words: &str) -> Result<(), NotTaken> {
         for text in words.split_whitespace() {
             let mut bytes = Vec::new(self.alloc);
@@ -126,7 +126,7 @@ impl Job {
         Ok(())
     }
 
-    // Adds a line to a file so many times, with its number in the place of `####`.
+    // Adds a line to a file `times` times, with its number instead of the first `####`.
     fn add_times(&mut self, times: u32, unit: Unit, text: &str) -> Result<(), NotTaken> {
         for number in 0..times {
             match text.split_once("####") {
@@ -140,18 +140,18 @@ impl Job {
         Ok(())
     }
 
-    // Does what the words say over the files, the call of this number failing.
+    // Does the job over the files; the host's call with this number fails.
     //
-    // The error is want of memory for the host.
+    // The error is a lack of memory for the host.
     pub(crate) fn done(&self, failing: Option<u64>) -> Result<(Answer, MemHost), AllocError> {
         let mut host = self.host(failing)?;
         let answer = ibm1620_answer(self.alloc, &self.words, &mut host);
         Ok((answer, host))
     }
 
-    // Does the whole job over the files, with all that lies around it: its code, and what is said of it.
+    // Does the whole job over the files: its exit code, and its messages.
     //
-    // The error is want of memory for the host, or for what is said.
+    // The error is a lack of memory for the host, or for the messages.
     pub(crate) fn done_whole(&self) -> Result<(u8, MemorySink), AllocError> {
         let mut host = Counting::over(self.host(self.failing)?);
         let mut said = MemorySink::new(self.alloc);
@@ -169,7 +169,7 @@ impl Job {
         }
     }
 
-    // A host with the files, the call of this number failing.
+    // A host with the files, whose call with this number fails.
     fn host(&self, failing: Option<u64>) -> Result<MemHost, AllocError>
         ensures { IfOk result (λ host. IsFresh (mem_world host)) }
     {
@@ -180,16 +180,16 @@ impl Job {
         Ok(host)
     }
 
-    // Does what the words say over the files, by a host that shows nothing.
+    // Does the job over the files, with a host that reveals nothing.
     //
-    // The error is want of memory for the host.
+    // The error is a lack of memory for the host.
     pub(crate) fn done_quietly(&self) -> Result<Answer, AllocError> {
         let mut host = self.files.quiet_host()?;
         Ok(ibm1620_answer(self.alloc, &self.words, &mut host))
     }
 }
 
-// The outputs of a list of names.
+// The outputs that a list names.
 fn outputs_named(alloc: Global, names: &str) -> Result<Vec<Unit>, NotTaken> {
     let mut outputs = Vec::new(alloc);
     for name in names.split_whitespace() {
@@ -198,7 +198,7 @@ fn outputs_named(alloc: Global, names: &str) -> Result<Vec<Unit>, NotTaken> {
     Ok(outputs)
 }
 
-// The parts of an answer of a list of names.
+// The parts of an answer that a list names.
 fn parts_named(alloc: Global, names: &str) -> Result<Vec<AnswerPart>, NotTaken> {
     let mut parts = Vec::new(alloc);
     for name in names.split_whitespace() {

@@ -9,11 +9,11 @@ pub(crate) enum RowLine<'a> {
     Words(&'a str),
     // A line of the file of a unit.
     Text(Unit, &'a str),
-    // A line of such a file, so many times, each with its number.
+    // A line of the file of a unit, a number of times, each with its number.
     Times(u32, Unit, &'a str),
-    // The object deck of the row before is the deck.
+    // The object deck of the row before is added to the deck.
     Object,
-    // The pack's file is what the row before left on its pack.
+    // The pack's file has the sectors that the row before left on its pack.
     Sectors,
     // A sector that is written before the job begins.
     Sector(u32, &'a str),
@@ -25,18 +25,18 @@ pub(crate) enum RowLine<'a> {
     Show(&'a str),
     // The outputs whose bytes are counted.
     Count(&'a str),
-    // The parts of the answer that are shown besides its status.
+    // The parts of the answer that are shown in addition to its status.
     Answer(&'a str),
-    // The console is asked for.
+    // The user asks for the console.
     AsksConsole,
-    // The host shows nothing.
+    // The host reveals nothing.
     Quiet,
-    // Each call fails in turn.
+    // Each call fails, one after another.
     Turns,
 }
 
 impl<'a> RowLine<'a> {
-    // The line that a text stands for; none where it is not known.
+    // The line of a text; None if it is not known.
     pub(crate) fn read(text: &'a str) -> Option<RowLine<'a>> {
         let (name, text) = text.split_once('|')?;
         match name {
@@ -60,14 +60,14 @@ impl<'a> RowLine<'a> {
     }
 }
 
-// A line of a file, behind the number of times that it is there.
+// A line of a file, after the number of times that it is there.
 fn times(text: &str) -> Option<RowLine<'_>> {
     let (times, line) = text.split_once('|')?;
     let (name, text) = line.split_once('|')?;
     Some(RowLine::Times(times.parse().ok()?, file_named(name)?, text))
 }
 
-// The text of a sector, behind its number.
+// The text of a sector, after its number.
 fn sector(text: &str) -> Option<RowLine<'_>> {
     let (number, text) = text.split_once('|')?;
     let number: u32 = number.parse().ok()?;
@@ -78,7 +78,7 @@ fn sector(text: &str) -> Option<RowLine<'_>> {
     }
 }
 
-// The file of this name, that of an input or of the pack; the row and the words name it alike, by its unit's word.
+// The file of this name, for an input or the pack; the row and the words both name it by its unit's word.
 fn file_named(name: &str) -> Option<Unit> {
     for unit in Unit::ALL {
         if !unit.is_output() && unit.word() == name {
@@ -88,7 +88,7 @@ fn file_named(name: &str) -> Option<Unit> {
     None
 }
 
-// The output of this name, which is its word.
+// The output of this name, which is the unit's word.
 pub(crate) fn output_named(name: &str) -> Option<Unit> {
     for unit in Unit::ALL {
         if unit.is_output() && unit.word() == name {

@@ -1,7 +1,7 @@
-//! Jobs over hosts in memory, as rows of a text: what each is given, and what it comes to.
+//! Jobs over hosts in memory, as rows of a text: the settings of each job, and its results.
 //!
-//! A row of the input has a line for each thing that its job is given, a name and a text, and ends at an empty line. `docs/rows.md` has
-//! the lines and what is printed of a row.
+//! A row of the input has a line for each setting of its job, a name and a text, and ends at an empty line. `docs/rows.md` has
+//! the lines and the output of a row.
 #![tactic(auto)]
 
 mod answers;

@@ -1,4 +1,4 @@
-// What a row's job comes to, as it is shown.
+// The results of a row's job, as they are shown.
 use crate::answers::{AnswerPart, show_console, show_refusal, show_statement};
 use crate::files::Sector;
 use crate::jobs::{Job, Way};
@@ -9,7 +9,7 @@ use outside_io::{ALL_SECTORS, MemHost, Unit};
 use std::alloc::Global;
 use std::io;
 
-// What was written to an output; nothing where the unit is none.
+// The text that was written to an output; nothing if the unit is not an output.
 pub(crate) fn written(host: &MemHost, unit: Unit) -> &[u8] {
     if unit.is_output() {
         host.shown(unit)
@@ -29,7 +29,7 @@ pub(crate) fn show_sector(
     show_text(rt, alloc, name.as_str(), sector)
 }
 
-// Prints each sector that is not as the job found it.
+// Prints each sector that the job has changed.
 fn show_sectors(rt: &impl Print, job: &Job, host: &MemHost) -> io::Result<()> {
     let is_bound = host.bound_name(Unit::Pack).is_some();
     for a in 0..ALL_SECTORS as u32 {
@@ -49,7 +49,7 @@ fn is_shown(job: &Job, unit: Unit) -> bool {
     }
 }
 
-// Prints what was written to the outputs that the row names.
+// Prints the texts or the byte counts of the outputs, as the row asks.
 fn show_outputs(rt: &impl Print, job: &Job, host: &MemHost) -> io::Result<()> {
     for unit in Unit::ALL {
         let text = written(host, unit);
@@ -62,7 +62,7 @@ fn show_outputs(rt: &impl Print, job: &Job, host: &MemHost) -> io::Result<()> {
     Ok(())
 }
 
-// Does a job over a host in memory, and prints what is written.
+// Does a job over a host in memory, and prints its outputs and the changed sectors.
 fn show_once(rt: &impl Print, job: &Job) -> io::Result<(Answer, MemHost)> {
     let (answer, host) = job.done(job.failing)?;
     show_outputs(rt, job, &host)?;
@@ -84,7 +84,7 @@ fn show_asked(rt: &impl Print, job: &Job, answer: &Answer) -> io::Result<()> {
     Ok(())
 }
 
-// The code of a job that ended so; where the row asks for what is said, that is printed, and the code is the one of the whole job.
+// The code of a job with this answer. If the row asks for the messages, they are printed, and the code is the whole job's.
 fn code_shown(rt: &impl Print, job: &Job, answer: &Answer) -> io::Result<u8> {
     if !job.asked.contains(&AnswerPart::Said) {
         return Ok(answer.status.code());
@@ -96,7 +96,7 @@ fn code_shown(rt: &impl Print, job: &Job, answer: &Answer) -> io::Result<u8> {
     Ok(code)
 }
 
-// Does a job and prints what it comes to, its status and code last: the host, where it is one in memory.
+// Does a job and prints its results, its status and code last. The answer is the host, if it is in memory.
 pub(crate) fn show(rt: &impl Print, job: &Job) -> io::Result<Option<MemHost>> {
     println!(rt; "row|{}", job.row)?;
     let (answer, host) = match job.way {

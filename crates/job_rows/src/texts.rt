@@ -5,7 +5,7 @@ use std::io;
 // Why a line of a row is not taken.
 #[derive(Drop)]
 pub(crate) enum NotTaken {
-    // It is none that a row may have.
+    // A row can't have this line.
     Unknown,
     // There was no memory for it.
     Memory,
@@ -32,7 +32,7 @@ fn digit_of(byte: u8) -> Option<u8> {
     }
 }
 
-// The byte whose two digits of base 16 stand in front of a text, and the rest of the text.
+// The byte of the two digits of base 16 at the front of a text, and the rest of the text.
 fn byte_in_front(text: &[u8]) -> Option<(u8, &[u8])> {
     match text {
         [tens, units, rest @ ..] => Some(((digit_of(*tens)? << 4) | digit_of(*units)?, rest)),
@@ -40,7 +40,7 @@ fn byte_in_front(text: &[u8]) -> Option<(u8, &[u8])> {
     }
 }
 
-// Adds the bytes that a text stands for: `\` and two digits of base 16 are a byte, and a `\` at its end is none.
+// Adds the bytes of a text: `\` and two digits of base 16 are a byte, and a `\` at its end is dropped.
 pub(crate) fn add_bytes(bytes: &mut Vec<u8>, text: &str) -> Result<(), NotTaken> {
     let text = text.strip_suffix('\\').unwrap_or(text);
     let mut escaped = false;
@@ -57,7 +57,7 @@ pub(crate) fn add_bytes(bytes: &mut Vec<u8>, text: &str) -> Result<(), NotTaken>
     Ok(())
 }
 
-// Adds the bytes that a line stands for, and its end where there is no `\` at it.
+// Adds the bytes of a line, and a line end unless it ends with `\`.
 pub(crate) fn add_line(bytes: &mut Vec<u8>, line: &str) -> Result<(), NotTaken> {
     add_bytes(bytes, line)?;
     if !line.ends_with('\\') {
@@ -66,7 +66,7 @@ pub(crate) fn add_line(bytes: &mut Vec<u8>, line: &str) -> Result<(), NotTaken> 
     Ok(())
 }
 
-// Adds a byte to a line as it is shown: itself where it is a printable character.
+// Adds a byte to a line as it is shown: as itself if it is printable, but not `\`.
 fn add_shown(alloc: Global, line: &mut String, byte: u8) -> Result<(), AllocError> {
     if byte == b'\\' || !(b' '..=b'~').contains(&byte) {
         let digits = format!(in alloc; "\\{byte:02x}")?;
@@ -85,7 +85,7 @@ pub(crate) fn shown_line(alloc: Global, text: &[u8]) -> Result<String, AllocErro
     Ok(line)
 }
 
-// Prints a text in lines behind a name, as `add_line` takes them.
+// Prints a text in lines after a name, in the form that `add_line` takes.
 pub(crate) fn show_text(rt: &impl Print, alloc: Global, name: &str, text: &[u8]) -> io::Result<()> {
     let mut line = String::new(alloc);
     for &byte in text {

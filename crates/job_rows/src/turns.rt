@@ -1,4 +1,4 @@
-// Jobs of whose calls one fails: the first, then the second, and so on, until a job makes no call of that number.
+// Jobs with one failing call: the first, then the second, and so on, until a job makes no call with that number.
 use crate::jobs::Job;
 use crate::shown::{show_sector, written};
 use crate::texts::show_text;
@@ -7,26 +7,26 @@ use outside_io::{ALL_SECTORS, MemHost, Unit};
 use std::alloc::Global;
 use std::io;
 
-// No job of these makes so many calls.
+// Each job here makes fewer calls.
 const MANY_CALLS: u64 = 1000;
 
-// Where a piece of an output begins: the output, and the bytes in front of the piece.
+// The start of a piece of an output: the output, and the count of bytes before the piece.
 #[derive(Clone, Copy)]
 struct PieceStart {
     unit: Unit,
     from: usize,
 }
 
-// What a job writes, as far as it is printed.
+// The pieces that a job writes, as far as they are printed.
 #[derive(Drop)]
 struct WrittenPieces {
     alloc: Global,
-    // Where the piece begins that is written now; none where that is a sector, or nothing is written yet.
+    // The start of the current piece; None if this is a sector, or nothing is written yet.
     place: Option<PieceStart>,
 }
 
 impl WrittenPieces {
-    // Prints the piece that is written now.
+    // Prints the current piece.
     fn show(&self, rt: &impl Print, host: &MemHost) -> io::Result<()> {
         match self.place {
             Some(place) => {
@@ -37,8 +37,8 @@ impl WrittenPieces {
         }
     }
 
-    // Goes on to what a job wrote whose failing call is one later, and prints each piece in front of that. All that the job before it
-    // wrote has to be a first part, and since a call writes to one output no more than one has more now.
+    // Goes on to the texts of the next job, whose failing call is one later, and prints each piece before them. Each text of the job
+    // before has to be a first part of the new text. Since a call writes to one output, at most one text may be longer now.
     fn go_on(&mut self, rt: &impl Print, before: &MemHost, after: &MemHost) -> io::Result<()> {
         let mut longer = false;
         for unit in Unit::ALL {
@@ -61,7 +61,7 @@ impl WrittenPieces {
         Ok(())
     }
 
-    // Goes on in an output: prints the piece before, where that is of another one.
+    // Goes on in an output: prints the piece before, if that is in another output.
     fn go_on_in(&mut self, rt: &impl Print, before: &MemHost, unit: Unit) -> io::Result<()> {
         if self.place.is_none_or(|place| place.unit != unit) {
             self.show(rt, before)?;
@@ -71,7 +71,7 @@ impl WrittenPieces {
         Ok(())
     }
 
-    // Prints the piece and each sector that is another one now.
+    // Prints the current piece and each sector that has changed.
     fn go_on_in_sectors(
         &mut self,
         rt: &impl Print,
@@ -90,8 +90,8 @@ impl WrittenPieces {
     }
 }
 
-// Lets each call of the job fail in turn, until it makes no call of that number, and prints the pieces that it writes and the number of
-// its calls: the answer of the job then, and its host. A job that makes too many calls ends with a fault of the host.
+// Lets each call of the job fail, one after another, until it makes no call with that number. Prints the pieces that it writes and the
+// count of its calls. The result is the answer and the host of the last job; after too many calls the status is `HostFault`.
 pub(crate) fn show_turns(rt: &impl Print, job: &Job) -> io::Result<(Answer, MemHost)> {
     let mut pieces = WrittenPieces {
         alloc: job.alloc,

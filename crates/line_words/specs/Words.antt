@@ -14,12 +14,12 @@ unfoldable pub words_of : List ℕ → List (List ℕ)
 words_of [] = [] ∷ []
 words_of (b ∷ bytes) = if b == 32 then [] ∷ words_of bytes else onto_word b (words_of bytes)
 
--- the words behind the first one: none where no blank ended it
+-- the words after the first word: none if no blank ended it
 abbrev pub words_behind : Option (List ℕ) → List (List ℕ)
 words_behind None = []
 words_behind (Some text) = words_of text
 
--- the number that digits are written for, where all bytes of the word are digits
+-- the number that the digits of a word give, if all its bytes are digits
 abbrev pub digits_number : List ℕ → Option ℕ
 digits_number word = if list_all is_ascii_digit word then Some (decimal_number word) else None
 
@@ -31,7 +31,7 @@ largest_number = 999999999999999
 abbrev pub number : List ℕ → Option ℕ
 number word = if nat_le 1 (length word) && nat_le (length word) 15 then digits_number word else None
 
--- the number itself, where it lies between its ends
+-- the number itself, if it lies from least to most
 abbrev pub within : ℕ → ℕ → ℕ → Option ℕ
 within least most n = if nat_le least n && nat_le n most then Some n else None
 

@@ -1,4 +1,4 @@
-// The words that stand behind a command, by the kinds of arguments that they are.
+// The words after a command, by the kinds of arguments that they are.
 // Source: this project's own.
 ghost use Rattle.std.specs.Prelude.{◌≡◌, ◌+◌, ◌<◌, ◌≤◌, IfSome, option_map};
 ghost use Rattle.std.specs.Option.{option_copied};
@@ -16,7 +16,7 @@ pub struct Span {
     pub count: u32,
 }
 
-/// The item itself, where nothing stands behind its word.
+/// The item itself, if no word follows its own word; else `None`.
 pub fn alone<T: Drop>(item: T, behind: Option<&[u8]>) -> Option<T>
     ensures { result ≡ alone item (words_behind (option_copied behind.entry)) }
 {
@@ -26,7 +26,7 @@ pub fn alone<T: Drop>(item: T, behind: Option<&[u8]>) -> Option<T>
     }
 }
 
-/// The word that stands behind another one; `None` where none does, or more than one.
+/// The one word that follows another word; `None` if none follows, or more than one.
 pub fn one_word(behind: Option<&[u8]>) -> Option<&[u8]>
     ensures { option_copied result ≡ one_word (words_behind (option_copied behind.entry)) }
 {
@@ -36,7 +36,7 @@ pub fn one_word(behind: Option<&[u8]>) -> Option<&[u8]>
     }
 }
 
-/// The two words that stand behind another one; `None` where fewer do, or more.
+/// The two words that follow another word; `None` if fewer follow, or more.
 pub fn two_words(behind: Option<&[u8]>) -> Option<(&[u8], &[u8])>
     ensures { option_map (λ words. (words.0.now, words.1.now)) result ≡ two_words (words_behind (option_copied behind.entry)) }
 {
@@ -45,7 +45,7 @@ pub fn two_words(behind: Option<&[u8]>) -> Option<(&[u8], &[u8])>
     Some((first, second))
 }
 
-/// Which of two words it is: true for the first, false for the second; `None` for any other word.
+/// Which of two words this word is: true for the first, false for the second; `None` for any other word.
 pub fn one_of(yes_word: &[u8], no_word: &[u8], word: &[u8]) -> Option<bool>
     ensures { result ≡ one_of yes_word.now no_word.now word.now }
 {
@@ -58,7 +58,7 @@ pub fn one_of(yes_word: &[u8], no_word: &[u8], word: &[u8]) -> Option<bool>
     }
 }
 
-/// The number that a word of 1 to 15 decimal digits is, where it lies below a limit, as an address in a core of so many positions;
+/// The number that a word of 1 to 15 decimal digits is, if it is below a limit, as an address in a core of `limit` positions;
 /// `None` for any other word.
 pub fn number_below(limit: u32, word: &[u8]) -> Option<u32>
     ensures value { result ≡ number_below limit word.now }
@@ -72,7 +72,7 @@ pub fn number_below(limit: u32, word: &[u8]) -> Option<u32>
     }
 }
 
-/// The numbers that two words say: the first of them, and how many, 1 to `most`; `None` where one of them does not lie below the limit,
+/// The numbers that two words give: the first of them, and how many, 1 to `most`; `None` if one of them is not below the limit,
 /// and for any other words.
 pub fn span_below(limit: u32, most: u32, first: &[u8], count: &[u8]) -> Option<Span>
     ensures value { result ≡ span_below limit most first.now count.now }
@@ -85,7 +85,7 @@ pub fn span_below(limit: u32, most: u32, first: &[u8], count: &[u8]) -> Option<S
     span_within(limit, first, count)
 }
 
-// So many numbers from a first one on, where all of them lie below a limit.
+// `count` numbers from `first` on, if all of them are below a limit.
 fn span_within(limit: u32, first: u64, count: u64) -> Option<Span>
     ensures value { result ≡ span_within limit first count }
     ensures same { IfSome result (λ span. span.count ≡ count) }

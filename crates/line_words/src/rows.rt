@@ -1,8 +1,8 @@
-// Tables of names and what they stand for.
+// Tables of names and their values.
 ghost use Rattle.std.specs.Prelude.{◌≡◌, map};
 ghost use Rattle.line_words.specs.Rows.{row_from_table, value_by_name};
 
-/// What the first row of a name has, in a table of names and what they stand for; `None` where no row has the name.
+/// The value of the first row with this name, in a table of names and their values; `None` if no row has the name.
 ///
 /// Source: this project's own.
 #[tactic(auto, unfolding(crate::specs::Rows::value_by_name))]

@@ -14,9 +14,9 @@ fn first_blank(text: &[u8]) -> Option<usize>
     text.iter().position(|b| *b == b' ')
 }
 
-/// The first word of a text, and what stands behind the blank that ends it; `None` where no blank does.
+/// The first word of a text, and the text after the blank that ends it; `None` if no blank does.
 ///
-/// Each blank ends a word, which may be empty: a text begins with an empty word where its first byte is a blank.
+/// Each blank ends a word, which may be empty: a text begins with an empty word if its first byte is a blank.
 pub fn cut_word(text: &[u8]) -> (&[u8], Option<&[u8]>)
     ensures { words_of text.now ≡ result.0.now ∷ words_behind (option_copied result.1) }
 {
@@ -44,7 +44,7 @@ pub fn number(word: &[u8]) -> Option<u64>
     Some(n)
 }
 
-/// The number that a word of 1 to 15 decimal digits is, where it is one from `least` to `most`; `None` for any other word.
+/// The number that a word of 1 to 15 decimal digits is, if it is from `least` to `most`; `None` for any other word.
 pub fn number_in(least: u64, most: u64, word: &[u8]) -> Option<u64>
     ensures value { result ≡ number_in least most word.now }
     ensures least { IfSome result (λ n. least ≤ n) }

@@ -1,4 +1,4 @@
--- A deck that loads itself: what the Load key and so many steps make of any core that the program fits in.
+-- A deck that loads itself: the effect of the Load key and k steps on any core that the program fits in.
 use Rattle.std.specs.Prelude.{ℕ, ◌≡◌, ◌<◌, ◌≤◌, List, ◌++◌, length, map}
 use Rattle.std.specs.List.{All}
 use Rattle.digit_core.specs.Size.{IsSize, size}
@@ -14,7 +14,7 @@ use Rattle.deck_punch.specs.Overlay.{overlay}
 use Rattle.card_steps.specs.Steps.{after_steps, events_of_load, deck_taken}
 
 -- a state that goes on at the start of a program: its image is laid over a core, IR is at the start, the rest is in the hopper, the
--- last-card indicator is on exactly where that is empty, and all else is as it was
+-- last-card indicator is on exactly if the rest is empty, and all else is as it was
 abbrev pub state_at_start : State → List DigitRun → ℕ → List ℕ → List Entry → State
 state_at_start s image start core rest =
     record s {
@@ -32,7 +32,7 @@ pub record LoadsOver (deck : List (List ℕ)) (image : List DigitRun) (start k :
   pub takes : events_of_load k s ≡ deck_taken deck
 
 -- THE PROMISE. A deck loads an image and enters a start in k steps: over every core, good or not, of each size above all declared
--- addresses and the start, whatever else the state is, and with any rest of the hopper behind the deck
+-- addresses and the start, whatever else the state is, and with any rest of the hopper after the deck
 abbrev pub Loads : List (List ℕ) → List DigitRun → ℕ → ℕ → Type 0
 Loads deck image start k =
     (m : ℕ) (s : State) (rest : List Entry) → IsSize m → length s.core ≡ size m → All (IsRunBelow (size m)) image

@@ -1,4 +1,4 @@
--- What the cards of a program are, and what they do, by the form of its deck.
+-- The cards of a program, and their effect, by the form of its deck.
 use Rattle.std.specs.Prelude.{ℕ, ◌≡◌, List, length, map}
 use Rattle.card_code.specs.declared.Card.{Card}
 use Rattle.sps_pass_two.specs.Image.{DigitRun}
@@ -15,12 +15,12 @@ abbrev pub deck_in : DeckForm → List DigitRun → ℕ → List (List ℕ)
 deck_in SelfLoading image start = deck image start
 deck_in Dense image start = dense_deck image start
 
--- how many steps a deck of so many cards takes
+-- how many steps a deck with this number of cards takes
 abbrev pub deck_steps : DeckForm → ℕ → ℕ
 deck_steps SelfLoading cards = self_loading_steps cards
 deck_steps Dense cards = dense_steps cards
 
--- a deck has so many cards at least
+-- the least number of cards that a deck has
 abbrev pub fewest_in : DeckForm → ℕ
 fewest_in SelfLoading = 1
 fewest_in Dense = 3

@@ -20,16 +20,17 @@ use std::alloc::{AllocError, Global};
 
 /// Punches the object deck of a program, which loads itself.
 ///
-/// Put the deck in the hopper, data cards behind it if there are any, and press the Load key. After the deck's steps the machine runs at
-/// the program's start. In core stands the program's image; beneath it are the standard tables in 00100 to 00399 and the last card in
-/// 00000 to 00079, and every other cell is as it was; outside, each card of the deck is taken, and nothing else is done. It works over
-/// every core, whatever stands there, of each size that is above all declared addresses and above the start. Indicator 09 is on exactly
-/// where no card follows the deck.
+/// Put the deck in the hopper, with any data cards after it, and press the Load key. After the deck's steps the machine runs at
+/// the program's start. Core then has the program's image; beneath it are the standard tables in 00100 to 00399 and the last card
+/// in 00000 to 00079, and every other cell is as it was. The machine takes each card of the deck and does nothing else outside.
+/// The deck works over every core, whatever it holds, of each size that is above all declared addresses and above the start.
+/// Indicator 09 is on exactly if no card follows the deck.
 ///
-/// The tables on the cards have the image's digits where it declares addresses of theirs; its other pieces are its runs from 00400 on. The cards
-/// of a self-loading deck are one for each segment of the tables, 31 where the image declares none of their addresses, one for each segment of
-/// the other pieces, and the transfer card. Those of a dense deck are the loader card, one for each dense segment of the other pieces, the
-/// bridge card, those of the tables, and the transfer card. They are never more than 100,000. The error is want of memory.
+/// The tables on the cards have the image's digits at the addresses that it declares; its other pieces are its runs from 00400
+/// on. A self-loading deck has a card for each segment of the tables, 31 if the image declares no address in them. Then it has a
+/// card for each segment of the other pieces, and the transfer card. A dense deck has the loader card, a card for each dense
+/// segment of the other pieces, the bridge card, the cards of the tables, and the transfer card. A deck has at most 100,000
+/// cards. The error is a lack of memory.
 pub fn object_deck(
     alloc: Global,
     assembled: &Assembled,
@@ -48,7 +49,7 @@ pub fn object_deck(
     }
 }
 
-// The self-loading deck: the cards of the table piece, those of the image's other pieces, and the transfer card.
+// The self-loading deck: the cards of the table piece, the cards of the image's other pieces, and the transfer card.
 fn self_loading(alloc: Global, image: &Image, start: u32) -> Result<Vec<Card>, AllocError>
     requires { start + 12 ≤ MOST_POSITIONS }
     ensures { IfOk result (λ cards. map card_bytes cards.items ≡ deck image.now.pieces start) }
@@ -95,11 +96,11 @@ fn punch(alloc: Global, cards: &mut Vec<Card>, image: &Image) -> Result<(), Allo
     Ok(())
 }
 
-/// How many steps a deck of so many cards takes: from the Load key until the machine is at the program's start.
+/// How many steps a deck of `cards` cards takes: from the Load key until the machine is at the program's start.
 ///
-/// In a self-loading deck four for each card but the last, whose one step is the jump to the start. In a dense deck four for each card but
-/// the loader card and the last, two more behind the bridge card, and the jump. The Load key itself, which reads the first card, is no step.
-/// `cards` is all cards of the deck and none of the data: 1 to 100,000, and in a dense deck 3 at least.
+/// In a self-loading deck: four for each card except the last; its one step is the jump to the start. In a dense deck: four for
+/// each card except the loader card and the last, two more after the bridge card, and the jump. The Load key reads the first card
+/// and is not a step. `cards` counts all cards of the deck and no data card: 1 to 100,000, and in a dense deck at least 3.
 pub fn deck_steps(cards: u64, form: DeckForm) -> u64
     requires some { fewest_in form ≤ cards }
     requires most { cards ≤ 100000 }

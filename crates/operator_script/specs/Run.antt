@@ -32,7 +32,7 @@ pub record RunState (m : ℕ) : Type 0 where
 abbrev pub run_state : (m : ℕ) → Machine m → Script → ℕ → RunState m
 run_state m machine script steps = record { machine = machine; script = script; steps = steps }
 
--- where a run stands
+-- the run state of a run
 abbrev pub standing_of : (m : ℕ) → Run m → RunState m
 standing_of m r = run_state m r.machine.now r.script.now r.steps
 
@@ -48,7 +48,7 @@ pub record IsReady (m : ℕ) (r : Run m) : Type 0 where
   pub sound : is_faulted r.machine.now.mode ≡ false
   pub lines : All (IsLine (size m)) (lines_left r.script.now)
 
--- a moment of a run: where they stand, and what the host has seen
+-- a moment of a run: a run state, and what the host has seen
 pub record Moment (m : ℕ) : Type 0 where
   pub at : RunState m
   pub seen : Seen
@@ -59,25 +59,25 @@ moment_at m x seen = record { at = x; seen = seen }
 abbrev pub moment : (m : ℕ) → Machine m → Script → ℕ → Seen → Moment m
 moment m machine script steps seen = moment_at m (run_state m machine script steps) seen
 
--- they stand at this place, whose cards, keyboard lines and sectors are the told ones where they are told
+-- a run state is at this place; the place has the cards, keyboard lines and sectors that the host reveals, if it reveals them
 pub record StandsAt (m : ℕ) (x : RunState m) (w : World) (p : run.RunPlace) : Type 0 where
   pub state : Shows m x.machine w p.state
   pub steps : p.steps ≡ x.steps
   pub script : p.script ≡ lines_left x.script
 
--- the place where they stand while the machine shows a state
+-- the place of a run state while the machine shows this state
 abbrev pub place_with : (m : ℕ) → RunState m → State → run.RunPlace
 place_with m x s = record { state = s; steps = x.steps; script = lines_left x.script }
 
--- the place where they stand, where that is told
+-- the place of a run state, if the host reveals it
 abbrev pub place_of : (m : ℕ) → RunState m → World → Option run.RunPlace
 place_of m x w = option_map (place_with m x) (state_of m x.machine w)
 
--- the place of a moment, where that is told
+-- the place of a moment, if the host reveals it
 abbrev pub place_in : (m : ℕ) → Moment m → Option run.RunPlace
 place_in m x = place_of m x.at x.seen.world
 
--- no front line is due in a mode that can go
+-- if the run can go on in the mode, the front line is not due
 abbrev pub NoneIsDue : (m : ℕ) → RunState m → Type 0
 NoneIsDue m x =
     run.can_go x.machine.mode ≡ true → run.due_action x.machine.mode x.steps (lines_left x.script) ≡ None
@@ -92,7 +92,7 @@ pub record Moves (m limit : ℕ) (leads : run.RunPlace → run.Turning) (old new
   pub sound : is_faulted new.at.machine.mode ≡ false
   pub frames : Frames m old.at.machine new.at.machine old.seen new.seen
 
--- a turn ended the run, and nothing changed: Limit comes with the count at the limit, and no front line is due
+-- a turn ended the run, and nothing changed; Limit comes only with the count at the limit, and no front line is due
 pub record Rests (m limit : ℕ) (old new : Moment m) (how : Ending) : Type 0 where
   pub from : run.RunPlace
   pub stands : StandsAt m old.at old.seen.world from
@@ -121,19 +121,19 @@ Turns m limit old new end.Stepped = Moves m limit run.Stepped old new
 Turns m limit old new (end.Ended ending.Failed) = BreaksTurn m limit old new
 Turns m limit old new (end.Ended how) = Rests m limit old new how
 
--- where the turn was a step, the machine made one, whatever is told
+-- if the turn was a step, the machine made a step, whatever the host reveals
 abbrev pub StepsBy : (m : ℕ) → TurnEnd → Machine m → Machine m → Seen → Seen → Type 0
 StepsBy m end.Acted old new before after = ⊤
 StepsBy m end.Stepped old new before after = Makes m step old new before after
 StepsBy m (end.Ended how) old new before after = ⊤
 
--- they stand at the last place of the run from a first one on, and it ends so
+-- a moment is at the last place of the run from this first place on, and the run has this ending
 abbrev pub StandsLast : (m limit : ℕ) → Moment m → Ending → run.RunPlace → Type 0
 StandsLast m limit x how first =
     (n : ℕ) × (p : run.RunPlace) × (place_in m x ≡ Some p) × run.IsLast limit first n p how
 
--- a run that came to its end: it stands at its last place, where that is told; told or not, its mode and its count end
--- it, and no front line is due
+-- a run that came to its end: if the host reveals the first place, it is at its last place; in any case its mode and its count
+-- end it, and no front line is due
 pub record RunsOut (m limit : ℕ) (old new : Moment m) (how : Ending) : Type 0 where
   pub last : IfSome (place_in m old) (StandsLast m limit new how)
   pub at_limit : how ≡ ending.Limit → new.at.steps ≡ limit
@@ -142,12 +142,12 @@ pub record RunsOut (m limit : ℕ) (old new : Moment m) (how : Ending) : Type 0 
   pub within : new.at.steps ≤ limit
   pub frames : Frames m old.at.machine new.at.machine old.seen new.seen
 
--- they stand at a place on the way of the run from a first one on
+-- a moment is on the way of the run from this first place on
 abbrev pub StandsOnTheWay : (m limit : ℕ) → Moment m → run.RunPlace → Type 0
 StandsOnTheWay m limit x first = (q : run.RunPlace) × (place_in m x ≡ Some q) × run.IsOnTheWay limit first q
 
--- a run in which the host failed: it stands at a place on its way, where that is told; told or not, the machine is left
--- Faulted
+-- a run in which the host failed: if the host reveals the first place, it is at a place on its way; in any case the machine is
+-- left Faulted
 pub record BreaksOff (m limit : ℕ) (old new : Moment m) : Type 0 where
   pub on_the_way : IfSome (place_in m old) (StandsOnTheWay m limit new)
   pub faulted : is_faulted new.at.machine.mode ≡ true
@@ -172,13 +172,13 @@ pub record Underway (m limit : ℕ) (first : RunState m) (start : Seen) (now : R
 abbrev pub turns_left : ℕ → (m : ℕ) → RunState m → ℕ
 turns_left limit m x = (limit - x.steps) + length (lines_left x.script)
 
--- turns led a run on from one standing to another, whatever run it is, and no more turns are left
+-- turns led any run under way from one run state to another, and no more turns are left than before
 abbrev pub GoesOn : (m limit : ℕ) → RunState m → Seen → RunState m → Seen → Type 0
 GoesOn m limit old before new after =
     (first : RunState m) (start : Seen) → Underway m limit first start old before
     → Underway m limit first start new after × (turns_left limit m new ≤ turns_left limit m old)
 
--- the host failed behind such turns
+-- the host failed in any run that was under way at the old run state
 abbrev pub BreaksFrom : (m limit : ℕ) → RunState m → Seen → RunState m → Seen → Type 0
 BreaksFrom m limit old before new after =
     (first : RunState m) (start : Seen) → Underway m limit first start old before
@@ -188,13 +188,13 @@ BreaksFrom m limit old before new after =
 abbrev pub IsQuiet : ℕ → List ScriptLine → Type 0
 IsQuiet count lines = (n : ℕ) → n < count → run.due_action mode.Running n lines ≡ None
 
--- what a turn was that was a step
+-- how a turn ended, by how its step ended
 abbrev pub end_of_step : StepEnd → TurnEnd
 end_of_step stepped.RunsOn = end.Stepped
 end_of_step stepped.Rests = end.Stepped
 end_of_step stepped.Failed = end.Ended ending.Failed
 
--- a step comes next, or doesn't, from each place with this mode, this count and these lines
+-- whether a step comes next, from each place with this mode, this count and these lines
 abbrev pub IsStepNext : ℕ → Mode → ℕ → List ScriptLine → Bool → Type 0
 IsStepNext limit mode steps lines answer =
     (p : run.RunPlace) → p.state.mode ≡ mode → p.steps ≡ steps → p.script ≡ lines
@@ -202,11 +202,12 @@ IsStepNext limit mode steps lines answer =
 
 -- What the parts of a turn do.
 
--- the operator acted, or the host failed in the Load key
+-- the host failed in the operator's Load key
 pub record BreaksLoad (m : ℕ) (what : Action) (old new : Machine m) (before after : Seen) : Type 0 where
   pub is : what ≡ action.Load
   pub breaks : StopsShort m load_cut old new before after
 
+-- the operator acted, or the host failed in the Load key
 abbrev pub ActsAsOperator : (m : ℕ) → Action → Machine m → Machine m → Seen → Seen → TurnEnd → Type 0
 ActsAsOperator m what old new before after end.Acted =
     Makes m (run.state_after_action what) old new before after × (is_faulted new.mode ≡ false)

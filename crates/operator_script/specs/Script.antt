@@ -13,7 +13,7 @@ use Rattle.operator_script.specs.declared.script.ScriptLine.{ScriptLine}
 abbrev pub stop_word : List ℕ → Option Bool
 stop_word word = one_of (codes "STOP") (codes "PROGRAM") word
 
--- ON, OFF: program switch k is turned so
+-- ON, OFF: program switch k is turned on or off
 abbrev pub switch_to : List ℕ → ℕ → Option Action
 switch_to place k = option_map (λ on. action.Switch k on) (one_of (codes "ON") (codes "OFF") place)
 
@@ -25,11 +25,11 @@ switch_of words = option_and_then (switch_to words.1) (number_in 1 4 words.0)
 abbrev pub flip_at : List ℕ → ℕ → Option Action
 flip_at b at = option_map (λ bit. action.Flip at bit) (number_in 0 5 b)
 
--- a b with the address a in a core of so many positions
+-- a b with the address a in a core of `positions` positions
 abbrev pub flip_of : ℕ → List ℕ × List ℕ → Option Action
 flip_of positions words = option_and_then (flip_at words.1) (number_below positions words.0)
 
--- the action of a word, and of the words behind it
+-- the action of a word and the words after it
 abbrev pub action_with : ℕ → List ℕ → List (List ℕ) → Option Action
 action_with positions word behind =
     if bytes_eq word (codes "START") then alone action.Start behind
@@ -40,7 +40,7 @@ action_with positions word behind =
     else if bytes_eq word (codes "FLIP") then option_and_then (flip_of positions) (two_words behind)
     else None
 
--- the action of some words, over a core of so many positions
+-- the action of some words, for a core of `positions` positions
 abbrev pub action_of : ℕ → List (List ℕ) → Option Action
 action_of positions [] = None
 action_of positions (word ∷ behind) = action_with positions word behind
@@ -48,7 +48,7 @@ action_of positions (word ∷ behind) = action_with positions word behind
 abbrev pub line_with : Due → Action → ScriptLine
 line_with due action = record { due = due; action = action }
 
--- an action, due at so many steps
+-- the line of an action that is due at this count of steps
 abbrev pub line_at : ℕ → ℕ → List (List ℕ) → Option ScriptLine
 line_at positions count ws = option_map (line_with (due.At count)) (action_of positions ws)
 
@@ -69,7 +69,7 @@ line_of_words positions (w ∷ ws) =
 abbrev pub line_of : ℕ → List ℕ → Option ScriptLine
 line_of positions text = line_of_words positions (words_of text)
 
--- the script that some bytes are, over a core of so many positions; else the number of the first bad line, all lines
--- being counted from 1
+-- the script in some bytes, for a core of `positions` positions, or the number of the first bad line; all lines are
+-- counted, from 1
 unfoldable pub script_of : ℕ → List ℕ → Result (List ScriptLine) ℕ
 script_of positions bytes = items_of_lines (line_of positions) bytes

@@ -1,4 +1,4 @@
--- The turns of a run: the operator's front line where it's due, else one step.
+-- The turns of a run: the operator's front line if it is due, otherwise one step.
 -- Source: CPU manual, console keys and switches, for what the operator's actions do; the turns are this project's own.
 use Rattle.std.specs.Prelude.{ℕ, zero, suc, ◌≡◌, Bool, true, false, ◌+◌, ◌-◌, ◌==◌, nat_le, List, [], ◌∷◌, length, if◌then◌else◌, Option, Some, None}
 use Rattle.digit_core.specs.Cell.{core_with_flip}
@@ -36,7 +36,7 @@ state_after_action (action.Overflow stops) s = record s { panel = with_checks st
 state_after_action (action.InOut stops) s = record s { panel = with_checks s.panel.overflow_stops stops s.panel }
 state_after_action (action.Flip at bit) s = record s { core = core_with_flip s.core at bit }
 
--- an AT line is due where the count has reached its number, a HALT line where the machine is halted
+-- an AT line is due once the count has reached its number, a HALT line when the machine is halted
 abbrev pub is_halted : Mode → Bool
 is_halted (mode.Halted at) = true
 is_halted m = false
@@ -45,7 +45,7 @@ abbrev pub is_due : Due → ℕ → Mode → Bool
 is_due (due.At n) steps m = nat_le n steps
 is_due due.Halt steps m = is_halted m
 
--- the action of the front line, where it's due
+-- the action of the front line, if it is due
 abbrev pub due_action : Mode → ℕ → List ScriptLine → Option Action
 due_action m steps [] = None
 due_action m steps (line ∷ rest) = if is_due line.due steps m then Some line.action else None
@@ -69,7 +69,7 @@ place_after_action p action rest = record { state = state_after_action action p.
 abbrev pub place_after_step : RunPlace → RunPlace
 place_after_step p = record { state = step p.state; steps = p.steps + 1; script = p.script }
 
--- how a run ends that stands in a mode, IR being as given
+-- how a run ends in this mode, with this IR
 abbrev pub ending_at : Mode → ℕ → Ending
 ending_at mode.Running ir = ending.Limit
 ending_at (mode.Halted at) ir = ending.Halted at
@@ -103,7 +103,7 @@ can_go m = false
 unfoldable pub turn : ℕ → RunPlace → Turning
 turn limit p = if can_go p.state.mode then by_script limit p p.script else Ended (ending_of p.state)
 
--- the places of a run, numbered from 0; None behind the last
+-- the places of a run, numbered from 0; None after the last
 unfoldable pub place_after : ℕ → ℕ → RunPlace → Option RunPlace
 place_after limit zero p = Some p
 place_after limit (suc n) p = elim (turn limit p) [
@@ -112,7 +112,7 @@ place_after limit (suc n) p = elim (turn limit p) [
   | Ended how ↦ None
 ]
 
--- the last of the run's places, after at most so many turns
+-- the last place of the run after at most n turns
 unfoldable pub last_within : ℕ → ℕ → RunPlace → RunPlace
 last_within limit zero p = p
 last_within limit (suc n) p = elim (turn limit p) [
@@ -129,7 +129,7 @@ most_turns limit p = (limit - p.steps) + length p.script
 abbrev pub last_place : ℕ → RunPlace → RunPlace
 last_place limit p = last_within limit (most_turns limit p) p
 
--- p is the run's last place, n turns after the first, and the run ends so
+-- p is the run's last place, n turns after the first, and the run has this ending
 pub record IsLast (limit : ℕ) (first : RunPlace) (n : ℕ) (p : RunPlace) (how : Ending) : Type 0 where
   pub reached : place_after limit n first ≡ Some p
   pub ends : turn limit p ≡ Ended how
@@ -148,7 +148,7 @@ pub data IsCutTurn (limit : ℕ) (p q : RunPlace) : Type 0 where
   in_load : (done : ℕ) (rest : List ScriptLine) → due_action p.state.mode p.steps p.script ≡ Some action.Load → turn limit p ≡ Acted (place_after_action p action.Load rest)
       → q ≡ place_load_cut done p rest → IsCutTurn limit p q
 
--- q is a place on the way of a run that was cut short behind one of its places
+-- q is a place on the way of a run that was cut short in the turn after one of its places
 pub record IsOnTheWay (limit : ℕ) (first q : RunPlace) : Type 0 where
   pub turns : ℕ
   pub place : RunPlace

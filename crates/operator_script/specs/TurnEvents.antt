@@ -33,7 +33,7 @@ turning_events p (Ended how) = []
 abbrev pub turn_events : ℕ → RunPlace → List Event
 turn_events limit p = turning_events p (turn limit p)
 
--- what the turns of a run do from a place on, at most so many
+-- what the turns of a run do from a place on, in at most n turns
 unfoldable pub events_within : ℕ → ℕ → RunPlace → List Event
 events_within limit zero p = []
 events_within limit (suc n) p = elim (turn limit p) [

@@ -1,4 +1,4 @@
-// The lines of a text, each of which is read as an item.
+// The lines of a text; each line is read as an item.
 // Source: this project's own.
 ghost use Rattle.std.specs.Prelude.{◌≡◌, ℕ, List, Option, All, IfOk, IfSome};
 ghost use Rattle.operator_script.specs.Lines.{ReadsLines};
@@ -11,16 +11,16 @@ use thiserror::Error;
 
 /// How a line is read.
 pub trait LineGrammar {
-    /// What a line is read as.
+    /// The type of the item that a line is read as.
     type Item: Drop;
 
-    /// The item that the text of a line is.
+    /// The item in the text of a line.
     ghost item_of: { Self → List ℕ → Option Self.Item };
 
-    /// What is known of an item, as the ranges of its numbers.
+    /// What holds for each item, for example the ranges of its numbers.
     ghost IsItem: { Self → Self.Item → Type 0 };
 
-    /// The item that the text of a line is; `None` for a text outside the grammar.
+    /// The item in the text of a line; `None` for a text outside the grammar.
     fn read_line(&self, text: &[u8]) -> Option<Self::Item>
         ensures value { result ≡ item_of self.now text.now }
         ensures fits { IfSome result (IsItem self.now) };
@@ -45,9 +45,9 @@ impl From<AllocError> for LineFault {
     }
 }
 
-/// The items that the lines of some bytes are, in their order.
+/// Reads the lines of some bytes as items, in their order.
 ///
-/// A line is ended by a LF, a last line without LF counts where it has a byte, and one CR at a line's end is dropped. Empty lines are
+/// A line ends with a LF; a last line without LF counts if it has a byte. One CR at a line's end is dropped. Empty lines are
 /// passed over; each other line is read by the grammar.
 ///
 /// The errors are the first line outside the grammar, by its number, and want of memory for the items.

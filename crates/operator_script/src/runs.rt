@@ -20,7 +20,7 @@ pub struct Run<'a, const M: u32> {
     pub script: &'a mut Script,
     /// How many steps were made.
     pub steps: u64,
-    /// How many steps may be made, those that were made among them.
+    /// How many steps may be made in all.
     pub limit: u64,
 }
 
@@ -33,9 +33,9 @@ enum StepEnd {
 }
 
 impl<const M: u32> Run<'_, M> {
-    /// One turn of the run, as [`turn`](crate::turn) says.
+    /// Makes one turn of the run, as [`turn`](crate::turn) does.
     ///
-    /// `steps` is no more than the limit, and the mode is not Faulted. Machine, script and limit stay those of the run.
+    /// `steps` is no more than the limit, and the mode is not Faulted. The run keeps its machine, its script and its limit.
     #[inline(always)]
     pub fn turn<H: Host>(&mut self, host: &mut H) -> TurnEnd
         requires { IsReady M self.old }
@@ -64,9 +64,9 @@ impl<const M: u32> Run<'_, M> {
         }
     }
 
-    /// Turns until one ends the run, as [`run`](crate::run) says; how it ends.
+    /// Makes turns until one ends the run, as [`run`](crate::run) does. The answer is the ending.
     ///
-    /// `steps` is no more than the limit, and the mode is not Faulted. Machine, script and limit stay those of the run.
+    /// `steps` is no more than the limit, and the mode is not Faulted. The run keeps its machine, its script and its limit.
     #[inline(always)]
     pub fn to_end<H: Host>(&mut self, host: &mut H) -> Ending
         requires { IsReady M self.old }
@@ -87,7 +87,7 @@ impl<const M: u32> Run<'_, M> {
         }
     }
 
-    // A count up to which each next turn is a step while the machine runs on; 0 where it doesn't run.
+    // A count of steps up to which each turn is a step while the machine runs on; 0 if it doesn't run.
     #[inline(always)]
     fn quiet_up_to(&self) -> u64
         ensures runs { 0 < result → is_running self.now.machine.now.mode ≡ true }
@@ -101,8 +101,8 @@ impl<const M: u32> Run<'_, M> {
         }
     }
 
-    // Steps up to this count, as long as the machine runs on, and no longer than the turns of the run would be steps. Whether the host
-    // failed.
+    // Makes steps up to this count while the machine runs on. Up to this count each turn of the run is a step. The answer is whether
+    // the host failed.
     #[inline(always)]
     fn steps_to<H: Host>(&mut self, count: u64, host: &mut H) -> bool
         requires ready { IsReady M self.old }
@@ -125,7 +125,7 @@ impl<const M: u32> Run<'_, M> {
         false
     }
 
-    // A turn that is a step.
+    // Makes a turn that is a step.
     #[inline(always)]
     fn step<H: Host>(&mut self, host: &mut H) -> StepEnd
         requires ready { IsReady M self.old }

@@ -18,7 +18,7 @@ use thiserror::Error;
 pub enum Due {
     /// `AT n`: once this many steps were made.
     At(u64),
-    /// `HALT`: where the machine is halted.
+    /// `HALT`: when the machine is halted.
     Halt,
 }
 
@@ -48,7 +48,7 @@ pub enum Action {
         /// Whether it is turned to STOP.
         stops: bool,
     },
-    /// `FLIP a b`: one bit of a cell of core is turned round, as a failing core might. Source:
+    /// `FLIP a b`: one bit of a cell of core is flipped, as a failing core might do. Source:
     /// this project's own, to show what the parity check does.
     Flip {
         /// The cell's address, below the number of core's positions.
@@ -101,7 +101,7 @@ impl From<LineFault> for ScriptFault {
     }
 }
 
-// How the lines of a script are read, for a core of so many positions.
+// How script lines are read, for a core of `positions` positions.
 #[derive(Drop)]
 struct ScriptGrammar {
     positions: u32,
@@ -119,7 +119,7 @@ impl LineGrammar for ScriptGrammar {
     }
 }
 
-/// The operator's script: its lines, of which some have acted.
+/// The operator's script: its lines. Some of them may have acted.
 ///
 /// Source: this project's own.
 #[derive(Drop)]
@@ -129,11 +129,11 @@ pub struct Script {
 }
 
 impl Script {
-    /// Reads a script, for a core of so many positions.
+    /// Reads a script, for a core of `positions` positions.
     ///
-    /// A line is ended by a LF, a last line without LF counts where it has a byte, and one CR at a
-    /// line's end is dropped. Empty lines are passed over. Each other line is words, parted by one
-    /// blank, with no blank at its ends: `AT n` and an action, or `HALT` and an action. An action
+    /// A line ends with a LF; a last line without LF counts if it has a byte. One CR at a
+    /// line's end is dropped. Empty lines are passed over. Each other line is words with one blank
+    /// between them and no blank at its ends: `AT n` and an action, or `HALT` and an action. An action
     /// is `START`, `LOAD`, `SWITCH k ON`, `SWITCH k OFF`, `OVERFLOW STOP`, `OVERFLOW PROGRAM`,
     /// `IO STOP`, `IO PROGRAM` or `FLIP a b`. A number has 1 to 15 decimal digits: the count n, the
     /// switch k, which is 1 to 4, the address a, which is below the number of positions, and the
@@ -179,7 +179,7 @@ fn line_of(text: &[u8], positions: u32) -> Option<ScriptLine>
     }
 }
 
-// What stands behind `AT`: `n action`.
+// The text after `AT`: `n action`.
 fn line_at_count(text: &[u8], positions: u32) -> Option<ScriptLine>
     ensures value { result ≡ line_at_count positions (words_of text.now) }
     ensures fits { IfSome result (IsLine positions) }
@@ -193,7 +193,7 @@ fn line_at_count(text: &[u8], positions: u32) -> Option<ScriptLine>
     })
 }
 
-// The action of a text: its word, and the arguments that stand behind it.
+// The action in a text: its word, and the arguments after it.
 fn action_of(text: &[u8], positions: u32) -> Option<Action>
     ensures value { result ≡ action_of positions (words_of text.now) }
     ensures fits { IfSome result (IsAction positions) }

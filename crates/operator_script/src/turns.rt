@@ -32,7 +32,7 @@ pub enum Ending {
     Limit,
     /// A card was to be read, and none was left.
     NeedCards {
-        /// The address of the instruction; 00000 where the Load key found no card.
+        /// The address of the instruction; 00000 if the Load key found no card.
         at: u32,
     },
     /// A line of the keyboard was to be read, and none was left.
@@ -51,7 +51,7 @@ pub enum Ending {
     Failed,
 }
 
-/// What a turn was.
+/// How a turn ended.
 #[derive(Clone, Copy, Debug, PartialEq, Eq)]
 pub enum TurnEnd {
     /// The operator acted by the front line of the script.
@@ -73,15 +73,15 @@ pub struct Ended {
 
 /// One turn of a run.
 ///
-/// The first of these that applies happens. A machine that neither runs nor is halted ends the run. The front line of the script acts
-/// where it is due, and is taken off: `AT n` is due once `steps` has reached n, `HALT` where the machine is halted. A halted machine
+/// The first of these rules that applies decides. A machine that neither runs nor is halted ends the run. If the front line of the script
+/// is due, it acts and is taken off: `AT n` is due once `steps` has reached n, `HALT` when the machine is halted. A halted machine
 /// ends the run. `steps` at the limit ends the run. Otherwise the machine makes one step, and `steps` rises by 1.
 ///
-/// `steps` is no more than the limit, and the mode is not Faulted. `Ended(Failed)` only where the host's count of faults rose, in
-/// a step or in a `LOAD` of the script: a first part of what it does is done then, the step counts, the `LOAD` line is taken off,
-/// and the mode is Faulted. A turn that ends the run otherwise changes nothing: `Ended(Limit)` comes only with `steps` at the
-/// limit, and no turn ends the run of a running or halted machine while the front line is due. Whatever the host tells of its
-/// units, `Stepped` says that the machine made a step.
+/// `steps` is no more than the limit, and the mode is not Faulted. `Ended(Failed)` only if the host's count of faults rose, in
+/// a step or in a `LOAD` of the script. Then a first part of the step or the `LOAD` is done, the step counts, the `LOAD` line is taken
+/// off, and the mode is Faulted. Any other turn that ends the run changes nothing. `Ended(Limit)` comes only with `steps` at the
+/// limit, and no turn ends the run of a running or halted machine while the front line is due. Whatever the host reveals of its
+/// units, `Stepped` means that the machine made a step.
 #[inline(always)]
 pub fn turn<const M: u32, H: Host>(
     machine: &mut Machine<M>,
@@ -109,13 +109,13 @@ pub fn turn<const M: u32, H: Host>(
     end
 }
 
-/// Turns from the first step on, until one ends the run.
+/// Makes turns from step count 0 on, until one ends the run.
 ///
-/// The mode is not Faulted. Every script and every limit comes to an end: no run makes more turns than its limit has steps and
-/// its script lines. Whatever the host tells of its units, the ending is that of the mode in which the machine is left: `Limit`
-/// comes only with the count at the limit and a machine that would run on, and no run ends in a running or halted machine while
-/// the front line is due. `Failed` only where the host's count of faults rose: the mode is Faulted then, the count is no more
-/// than the limit, and machine, script and count stand within a turn of this run.
+/// The mode is not Faulted. Every run ends, for every script and every limit: it makes no more turns than the steps of its limit and the
+/// lines of its script together. Whatever the host reveals of its units, the ending results from the machine's last mode. `Limit`
+/// comes only with the count at the limit and a machine that would run on. No run ends with a running or halted machine while
+/// the front line is due. `Failed` only if the host's count of faults rose. Then the mode is Faulted, the count is no more
+/// than the limit, and machine, script and count belong to a moment within a turn of this run.
 pub fn run<const M: u32, H: Host>(
     machine: &mut Machine<M>,
     script: &mut Script,
@@ -141,14 +141,14 @@ pub fn run<const M: u32, H: Host>(
     }
 }
 
-// Whether a run goes on in this mode.
+// Whether a run can go on in this mode.
 pub(crate) fn can_go(mode: Mode) -> bool
     ensures { result ≡ can_go mode }
 {
     matches!(mode, Mode::Running | Mode::Halted { .. })
 }
 
-// How a run ends that stands in this mode.
+// How a run ends in this mode, with this IR.
 pub(crate) fn ending_at(mode: Mode, ir: u32) -> Ending
     ensures { result ≡ ending_at mode ir }
 {
@@ -197,7 +197,7 @@ pub(crate) fn quiet_steps(script: &Script, limit: u64) -> u64
     }
 }
 
-// The action of the front line, where it is due.
+// The action of the front line, if it is due.
 fn due_action(script: &Script, mode: Mode, steps: u64) -> Option<Action>
     ensures is { result ≡ due_action mode steps (lines_left script.now) }
     ensures front { (a : Action) → result ≡ Some a → HasFront script.now }
@@ -210,7 +210,7 @@ fn due_action(script: &Script, mode: Mode, steps: u64) -> Option<Action>
     }
 }
 
-// The front line is due: the operator acts by it, and it is taken off. It stands apart, so that a turn without a line is short.
+// The front line is due: the operator acts by it, and it is taken off. This is not inlined, so that a turn without a line is short.
 #[inline(never)]
 pub(crate) fn act_by_script<const M: u32, H: Host>(
     machine: &mut Machine<M>,
@@ -236,7 +236,7 @@ pub(crate) fn act_by_script<const M: u32, H: Host>(
     }
 }
 
-// The mode behind the Start key.
+// The mode after the Start key.
 fn mode_at_start(mode: Mode) -> Mode
     ensures { result ≡ mode_at_start mode }
 {
@@ -246,7 +246,7 @@ fn mode_at_start(mode: Mode) -> Mode
     }
 }
 
-// The operator acts. `Ended(Failed)` where the host failed in the Load key, and `Acted` otherwise.
+// The operator acts. `Ended(Failed)` if the host failed in the Load key, and `Acted` otherwise.
 fn act<const M: u32, H: Host>(machine: &mut Machine<M>, action: Action, host: &mut H) -> TurnEnd
     requires action { IsAction (size M) action }
     requires mode { is_faulted machine.old.mode ≡ false }

@@ -26,6 +26,6 @@ pub record FailsNowhere (l : Limits) : Type 0 where
   pub failing : l.failing ≡ []
   pub room : (u : unit.Unit) → is_output u ≡ true → 1 ≤ l.room u
 
--- a fault was counted only at a listed call or at a full output
+-- if no call is to fail and each output has room, no fault was counted
 abbrev pub FaultsHaveCauses : OutputTexts → Calls → Type 0
 FaultsHaveCauses texts calls = FailsNowhere (limits_of texts calls) → calls.faults ≡ 0

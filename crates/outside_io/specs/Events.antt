@@ -1,4 +1,4 @@
--- What is done outside, one thing after another.
+-- The events outside the program, one after another.
 use Rattle.std.specs.Prelude.{ℕ, suc, ◌+◌, ◌≡◌, List, [], ◌∷◌, ◌++◌, map, if◌then◌else◌}
 use Rattle.outside_io.specs.declared.host.Unit as unit
 use Rattle.outside_io.specs.World.{World, same_unit, world_after_binding, world_after_put, with_sector_written}
@@ -12,8 +12,8 @@ pub data Event : Type 0 where
   TakeCard : Event
   TakeLine : Event
 
--- the world after one of them, and after all, but for what is left of the inputs and how they were asked: a card or a line that is taken changes
--- no more
+-- the world after an event, and after all events. What the inputs have left and how they were read is not followed: only these
+-- change if a card or a line is taken
 abbrev pub after_event : World → Event → World
 after_event w (BindFile u name) = world_after_binding u name w
 after_event w (WriteByte u byte) = world_after_put u (byte ∷ []) w
@@ -47,12 +47,12 @@ bytes_written u (d ∷ ds) = bytes_written u ds
 abbrev pub text_events : unit.Unit → List ℕ → List Event
 text_events u text = map (WriteByte u) text
 
--- a first part of what is done
+-- a first part of the events
 abbrev pub IsFirstPart : List Event → List Event → Type 0
 IsFirstPart ds all = (rest : List Event) × (ds ++ rest ≡ all)
 
--- the same files, and the same units in use, bound to the same names, with the same texts, sectors and limits; what is left of the
--- inputs may differ, and how they were asked
+-- the same files, and the same units in use, bound to the same names, with the same texts, sectors and limits; the bytes that
+-- inputs have left may differ, and how they were read
 pub record SameOutside (w v : World) : Type 0 where
   pub file : w.file ≡ v.file
   pub in_use : w.in_use ≡ v.in_use
@@ -61,11 +61,11 @@ pub record SameOutside (w v : World) : Type 0 where
   pub sectors : w.sectors ≡ v.sectors
   pub limits : w.limits ≡ v.limits
 
--- all of these were done between two worlds, and nothing else
+-- all of these events, and no others, happened between two worlds
 abbrev pub DidAll : List Event → World → World → Type 0
 DidAll ds old new = SameOutside new (after_events old ds)
 
--- a first part of them was, and nothing else
+-- a first part of these events, and no others, happened between two worlds
 pub record DidPart (all : List Event) (old new : World) : Type 0 where
   pub done : List Event
   pub part : IsFirstPart done all

@@ -1,4 +1,4 @@
--- What files in memory mean.
+-- The meaning of files in memory.
 use Rattle.std.specs.Prelude.{◌≡◌, ℕ, zero, suc, ◌≤◌, Bool, true, false, List, [], ◌∷◌, length, take, drop, Option, Some, slice_index_or, string_bytes, bytes_eq, if◌then◌else◌}
 use Rattle.outside_io.specs.declared.host.Unit as unit
 use Rattle.outside_io.specs.declared.in_memory.files.NamedFile.{NamedFile}
@@ -7,7 +7,7 @@ use Rattle.outside_io.specs.declared.host.Unit.TheVariants.{Pack}
 use Rattle.outside_io.specs.World.{World, Limits, Asked, one_reading, asked_after, place, same_unit, is_input, is_pack, sectors_of, empty_pack}
 use Rattle.outside_io.specs.Names.{name_of, KeepsName}
 
--- the name that the unit is bound to, where one is kept
+-- the name that is kept for the unit, if any
 abbrev pub name_of_unit : Files → unit.Unit → Option (List ℕ)
 name_of_unit files u = name_of files.names u
 
@@ -38,36 +38,36 @@ with_in_use u flags v = if same_unit u v then true else flags v
 abbrev pub opened_bytes : Files → unit.Unit → List ℕ
 opened_bytes files u = bytes_at files.named.items (slice_index_or files.opened (place u) 0)
 
--- those of them that the unit has not read
+-- the bytes of its file that the unit has not read
 abbrev pub unread_bytes : Files → unit.Unit → List ℕ
 unread_bytes files u = drop (slice_index_or files.position (place u) 0) (opened_bytes files u)
 
--- none where the unit is not in use
+-- the unread bytes; none if the unit is not in use
 abbrev pub rest_in_use : Files → unit.Unit → List ℕ
 rest_in_use files u = if flag_of files u then unread_bytes files u else []
 
--- what the unit has left
+-- the bytes that the unit has left; only an input has any
 abbrev pub rest_of : Files → unit.Unit → List ℕ
 rest_of files u = if is_input u then rest_in_use files u else []
 
--- what the pack has of its sectors: what its file has, or nothing
+-- the bytes that the pack has of each sector: its file's, or none
 abbrev pub sectors_from : Bool → List ℕ → ℕ → List ℕ
 sectors_from true bytes = sectors_of bytes
 sectors_from false bytes = empty_pack
 
--- what the pack has of its sectors, by its unit
+-- the bytes that the pack has of each sector, by the unit Pack
 abbrev pub pack_of : Files → ℕ → List ℕ
 pack_of files = sectors_from (flag_of files Pack) (opened_bytes files Pack)
 
--- how the unit was asked
+-- how the unit was read
 abbrev pub asked_of : Files → unit.Unit → Asked
 asked_of files u = record { last = slice_index_or files.last (place u) 0; ends = slice_index_or files.ends (place u) 0 }
 
--- how each unit was asked once one of them was asked and gave these bytes
+-- how each unit was read, after one of them gave these bytes
 abbrev pub with_reading : unit.Unit → List ℕ → (unit.Unit → Asked) → unit.Unit → Asked
 with_reading u bytes asked v = if same_unit u v then asked_after (one_reading bytes) (asked v) else asked v
 
--- the first n bytes of the buffer were the unit's next
+-- the first n bytes of the buffer were the unit's next bytes
 pub record Gives (old new : Files) (u : unit.Unit) (buf : List ℕ) (n : ℕ) : Type 0 where
   pub fits : n ≤ length buf
   pub copied : take n buf ≡ take n (rest_of old u)
@@ -80,11 +80,11 @@ pub record Gives (old new : Files) (u : unit.Unit) (buf : List ℕ) (n : ℕ) : 
   pub pack : pack_of new ≡ pack_of old
   pub asked : (v : unit.Unit) → asked_of new v ≡ with_reading u (take n buf) (asked_of old) v
 
--- what a unit has left once a file of these bytes is opened for it: an input has all of them
+-- the bytes that a unit has left after a file of these bytes is opened for it: all of them for an input
 abbrev pub rest_once_opened : unit.Unit → List ℕ → List ℕ → List ℕ
 rest_once_opened u bytes rest = if is_input u then bytes else rest
 
--- what each unit has left once that file is opened for one of them
+-- the bytes that each unit has left after this file is opened for one of them
 abbrev pub with_rest : unit.Unit → List ℕ → (unit.Unit → List ℕ) → unit.Unit → List ℕ
 with_rest u bytes rests v = if same_unit u v then rest_once_opened u bytes (rests v) else rests v
 
@@ -101,7 +101,7 @@ pub record Opens (old new : Files) (u : unit.Unit) (name : List ℕ) : Type 0 wh
 abbrev pub IsIdle : Files → Type 0
 IsIdle files = (u : unit.Unit) → flag_of files u ≡ false
 
--- no unit was asked
+-- no unit was read
 abbrev pub IsUnasked : Files → Type 0
 IsUnasked files = (u : unit.Unit) → asked_of files u ≡ record { last = 0; ends = 0 }
 
@@ -127,7 +127,7 @@ world_of files written sectors limits = record {
   limits = limits;
 }
 
--- nothing changed but room
+-- nothing changed, except perhaps the reserved memory
 pub record SameFiles (old new : Files) : Type 0 where
   pub named : new.named.items ≡ old.named.items
   pub bound : new.bound ≡ old.bound

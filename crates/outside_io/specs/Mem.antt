@@ -1,4 +1,4 @@
--- What a host in memory tells, and when it fails.
+-- The world that a host in memory reveals, and when it fails.
 use Rattle.std.specs.Prelude.{◌≡◌, ℕ, ◌≤◌, Bool, true, List, [], ◌∷◌, ◌++◌, length, Option, Some, IfSome, option_map}
 use Rattle.outside_io.specs.declared.host.Unit as unit
 use Rattle.outside_io.specs.declared.in_memory.mem.MemHost.{MemHost}
@@ -9,15 +9,15 @@ use Rattle.outside_io.specs.Files.{world_of, pack_of}
 use Rattle.outside_io.specs.Pack.{sectors_over}
 use Rattle.outside_io.specs.Texts as texts
 
--- what was written
+-- the bytes written to each unit
 abbrev pub written_texts : MemHost → unit.Unit → Option (List ℕ)
 written_texts host u = Some (texts.unit_text host.texts u)
 
--- the pack: the sectors that were written, over those of its file
+-- the pack: its written sectors over its file's
 abbrev pub pack_of_host : MemHost → ℕ → List ℕ
 pack_of_host host = sectors_over host.sectors (pack_of host.files)
 
--- a host in memory tells everything
+-- a host in memory reveals everything
 abbrev pub mem_world : MemHost → World
 mem_world host = world_of host.files (written_texts host) (Some (pack_of_host host)) (Some (limits_of host.texts host.calls))
 
@@ -25,7 +25,7 @@ mem_world host = world_of host.files (written_texts host) (Some (pack_of_host ho
 abbrev pub mem_seen : MemHost → Seen
 mem_seen host = record { faults = host.calls.faults; world = mem_world host }
 
--- what a new host tells: no file, nothing written, no call that is to fail, the room of each output, and no fault
+-- a new host: no file, no byte written, no call that is to fail, the room of each output, and no fault
 abbrev pub first_seen : ℕ → Seen
 first_seen size = record { faults = 0; world = record (no_files true) { limits = Some (record { failing = []; room = unit_room size }) } }
 
@@ -49,7 +49,7 @@ room_of_unit host u = texts.room_of host.texts u
 pub record IsWithinRoom (host : MemHost) : Type 0 where
   pub each : (u : unit.Unit) → IfSome ((mem_world host).written u) (λ text. length text ≤ room_of_unit host u)
 
--- each output has room for so many bytes
+-- each output has this room
 pub record HasRoom (room : ℕ) (host : MemHost) : Type 0 where
   pub each : (u : unit.Unit) → is_output u ≡ true → room_of_unit host u ≡ room
 
@@ -57,7 +57,7 @@ pub record HasRoom (room : ℕ) (host : MemHost) : Type 0 where
 abbrev pub is_listed : MemHost → Bool
 is_listed host = next_fails host.calls
 
--- faults, failing calls, their count and the room stay
+-- the faults, the failing calls, the count of calls and the room stay
 pub record KeepsCalls (old new : MemHost) : Type 0 where
   pub faults : new.calls.faults ≡ old.calls.faults
   pub failing : failing_calls new ≡ failing_calls old

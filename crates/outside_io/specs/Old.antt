@@ -12,6 +12,6 @@ has_old_bytes files u = slice_index_or files.is_old (place u) false
 abbrev pub HasNoOldBytes : {F : Type 0} → OpenFiles F → Type 0
 HasNoOldBytes files = IsUnmarked files.is_old
 
--- the unit's file loses them, and the others keep them
+-- the unit's file loses its old bytes, and all others keep theirs
 abbrev pub LosesOldBytes : {F : Type 0} → OpenFiles F → OpenFiles F → unit.Unit → Type 0
 LosesOldBytes old new u = (v : unit.Unit) → has_old_bytes new v ≡ (if same_unit u v then false else has_old_bytes old v)

@@ -1,13 +1,13 @@
--- What the sectors that were written mean over those of a file.
+-- The written sectors, which replace a file's sectors.
 use Rattle.std.specs.Prelude.{◌≡◌, ℕ, List, Option, None, unwrap_or, slice_index_or}
 use Rattle.outside_io.specs.declared.in_memory.pack.Sectors.{Sectors}
 use Rattle.outside_io.specs.World.{with_sector}
 
--- a pack over a base: each sector is the written one, or that of the base where none was written
+-- a pack over a base: each sector is the written one, or the base's if none was written
 abbrev pub pack_over : List (Option (List ℕ)) → (ℕ → List ℕ) → ℕ → List ℕ
 pack_over written base a = unwrap_or (slice_index_or written a None) (base a)
 
--- the sectors over those of a base
+-- the written sectors over a base
 abbrev pub sectors_over : Sectors → (ℕ → List ℕ) → ℕ → List ℕ
 sectors_over sectors base = pack_over sectors.written.items base
 

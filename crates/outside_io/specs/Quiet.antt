@@ -1,10 +1,10 @@
--- What a quiet host tells.
+-- The world that a quiet host reveals.
 use Rattle.std.specs.Prelude.{None}
 use Rattle.outside_io.specs.declared.in_memory.quiet.QuietHost.{QuietHost}
 use Rattle.outside_io.specs.World.{World, Seen}
 use Rattle.outside_io.specs.Files.{world_of}
 
--- a quiet host tells its inputs, and neither texts nor sectors nor limits
+-- a quiet host reveals its inputs, but no texts, sectors or limits
 abbrev pub quiet_world : QuietHost → World
 quiet_world host = world_of host.files (λ u. None) None None
 

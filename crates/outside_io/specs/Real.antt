@@ -1,4 +1,4 @@
--- A host that tells nothing of the bytes.
+-- A host that reveals no bytes.
 use Rattle.std.specs.Prelude.{◌≡◌, ℕ, Bool, false, List, Option, None, slice_index_or}
 use Rattle.outside_io.specs.declared.host.Unit as unit
 use Rattle.outside_io.specs.declared.names.BoundNames.{BoundNames}
@@ -9,7 +9,7 @@ use Rattle.outside_io.specs.Names.{name_of}
 use Rattle.outside_io.specs.Old.{HasNoOldBytes}
 use Rattle.outside_io.specs.Scratch.{scratch_room}
 
--- a world that tells which units are in use and under which names, and nothing else
+-- a world that reveals only which units are in use and under which names
 abbrev pub untold : List Bool → BoundNames → World
 untold bound names = record {
   in_use = λ u. slice_index_or bound (place u) false;
@@ -30,11 +30,11 @@ real_seen host = record { faults = host.faults.count; world = untold host.bound 
 abbrev pub last_trouble : {R F D : Type 0} → RealHost R F D → Option Trouble
 last_trouble host = host.faults.last
 
--- how many sectors of the pack, from the first one on, the host has the memory for while no file is bound to it
+-- how many sectors, from the first one on, the host has memory for while no file is bound to the pack
 abbrev pub pack_room : {R F D : Type 0} → RealHost R F D → ℕ
 pack_room host = scratch_room host.scratch
 
--- no byte of a file or a unit is told, nor how a unit was asked, nor when a call fails
+-- the world reveals no byte of a file, a unit or a sector, nor how a unit was read, nor when a call fails
 pub record TellsNothing (w : World) : Type 0 where
   pub file : (name : List ℕ) → w.file name ≡ None
   pub left : (u : unit.Unit) → w.left u ≡ None
@@ -43,6 +43,6 @@ pub record TellsNothing (w : World) : Type 0 where
   pub asked : (u : unit.Unit) → w.asked u ≡ None
   pub limits : w.limits ≡ None
 
--- no output's file has bytes any more that it had before it was bound
+-- no output's file still has bytes from before it was bound
 abbrev pub IsAllEmptied : {R F D : Type 0} → RealHost R F D → Type 0
 IsAllEmptied host = HasNoOldBytes host.files

@@ -3,6 +3,6 @@ use Rattle.std.specs.Prelude.{ℕ, if◌then◌else◌}
 use Rattle.outside_io.specs.declared.host.Unit as unit
 use Rattle.outside_io.specs.World.{is_output}
 
--- outputs alone have room
+-- only outputs have room
 abbrev pub unit_room : ℕ → unit.Unit → ℕ
 unit_room size u = if is_output u then size else 0

@@ -1,13 +1,13 @@
--- What the sectors of a pack in memory are, and how many of them it has the memory for.
+-- The sectors of a pack in memory, and how many of them it has memory for.
 use Rattle.std.specs.Prelude.{◌≡◌, ℕ, List, slice_index_or, vec_capacity}
 use Rattle.outside_io.specs.declared.scratch.ScratchPack.{ScratchPack}
 use Rattle.outside_io.specs.World.{blank_pack, with_sector}
 
--- each sector; there is nothing but zeros behind the last one, and where no memory was taken yet
+-- each sector; past the last one in memory they are blank
 abbrev pub scratch_sectors : ScratchPack → ℕ → List ℕ
 scratch_sectors scratch a = slice_index_or scratch.sectors.items a (blank_pack a)
 
--- how many sectors, from the first one on, it has the memory for
+-- how many sectors, from the first one on, it has memory for
 abbrev pub scratch_room : ScratchPack → ℕ
 scratch_room scratch = vec_capacity scratch.sectors
 

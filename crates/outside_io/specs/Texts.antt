@@ -1,4 +1,4 @@
--- What texts in memory mean.
+-- The meaning of texts in memory.
 use Rattle.std.specs.Prelude.{◌≡◌, ℕ, zero, suc, ◌-◌, ◌≤◌, Bool, List, [], ◌∷◌, ◌++◌, length, take, if◌then◌else◌, ◌==◌}
 use Rattle.outside_io.specs.declared.host.Unit as unit
 use Rattle.outside_io.specs.declared.in_memory.texts.OutputText.{OutputText}
@@ -12,7 +12,7 @@ output_at [] i = []
 output_at (o ∷ os) zero = o.text.items
 output_at (o ∷ os) (suc i) = output_at os i
 
--- a number of the text at a place of the list
+-- a measure of the text at a place of the list, 0 past its end
 abbrev pub measure_at : (OutputText → ℕ) → List OutputText → ℕ → ℕ
 measure_at measure [] i = 0
 measure_at measure (o ∷ os) zero = measure o
@@ -41,7 +41,7 @@ spare_of texts u = measure_at spare_room texts.outputs.items (place u)
 abbrev pub is_full : OutputTexts → unit.Unit → Bool
 is_full texts u = spare_of texts u == 0
 
--- nothing is written, and each output has room for so many bytes, all of which is left
+-- no byte is written, and each output has room for `size` bytes, all of it left
 pub record AreEmpty (size : ℕ) (texts : OutputTexts) : Type 0 where
   pub text : (u : unit.Unit) → unit_text texts u ≡ []
   pub room : (u : unit.Unit) → room_of texts u ≡ unit_room size u
@@ -53,7 +53,7 @@ pub record Clears (old new : OutputTexts) (u : unit.Unit) : Type 0 where
   pub room : (v : unit.Unit) → room_of new v ≡ room_of old v
   pub spare : (v : unit.Unit) → spare_of new v ≡ spare_of old v
 
--- the first n bytes of the piece go to one text; none go where it is full
+-- the first n bytes of the piece go to one text; none go if it is full
 pub record Grows (old new : OutputTexts) (u : unit.Unit) (piece : List ℕ) (n : ℕ) : Type 0 where
   pub fits : n ≤ length piece
   pub full : (n == 0) ≡ is_full old u

@@ -1,4 +1,4 @@
--- What a host means, and what its calls do to it.
+-- The world that a host reveals, and the effects of its calls.
 use Rattle.std.specs.Prelude.{◌≡◌, ℕ, ◌+◌, ◌-◌, ◌*◌, ◌≤◌, min, Bool, true, false, not, List, [], ◌∷◌, ◌++◌, length, take, drop, replicate, codes, Option, Some, None, option_map, option_and_then, unwrap_or, slice_index_or, IfSome, if◌then◌else◌, ◌==◌, nat_le, bytes_eq}
 use Rattle.std.specs.Option.{option_or}
 use Rattle.outside_io.specs.declared.host.Unit as unit
@@ -36,7 +36,7 @@ place Listing = 11
 place Made = 12
 place Report = 13
 
--- no unit has its mark, in marks by the units' places
+-- no unit is marked, in a list of marks by the units' places
 abbrev pub IsUnmarked : List Bool → Type 0
 IsUnmarked marks = (u : unit.Unit) → slice_index_or marks (place u) false ≡ false
 
@@ -61,40 +61,40 @@ unit_word Report = codes "report"
 abbrev pub same_unit : unit.Unit → unit.Unit → Bool
 same_unit a b = place a == place b
 
--- where the count of faults stands still
+-- the greatest count of faults
 abbrev pub most_faults : ℕ
 most_faults = 18446744073709551615
 
--- the next number, as far as numbers go
+-- the next number, at most `most_faults`
 abbrev pub one_more : ℕ → ℕ
 one_more n = min (n + 1) most_faults
 
--- the count went up in between, or stands at its end
+-- the count rose in between, or is at its greatest
 abbrev pub Rose : ℕ → ℕ → Type 0
 Rose before now = one_more before ≤ now
 
--- a name as a host keeps it: of one with more bytes nothing is told
+-- a name as a host keeps it; None if it has over 255 bytes
 abbrev pub kept_name : List ℕ → Option (List ℕ)
 kept_name name = if nat_le (length name) LONGEST_NAME then Some name else None
 
--- how an input was asked: how many bytes the last reading that was answered gave, 0 where it found no more, and how many readings found no
--- more, a count that stands still as that of the faults does
+-- how an input was read: how many bytes the last reading that did not fail gave, 0 if it found no more; and how many
+-- readings found no more, at most `most_faults`
 pub record Asked : Type 0 where
   pub last : ℕ
   pub ends : ℕ
 
--- readings of an input, one after another: the bytes that they gave, how many the last of them gave, None where there were none, and how many
--- of them found no more
+-- readings of an input, one after another: the bytes that they gave; how many the last reading gave, None if there was no
+-- reading; and how many readings found no more
 pub record Readings : Type 0 where
   pub bytes : List ℕ
   pub last : Option ℕ
   pub ends : ℕ
 
--- none
+-- no readings
 abbrev pub no_readings : Readings
 no_readings = record { bytes = []; last = None; ends = 0 }
 
--- one that gave these bytes, or found no more
+-- one reading that gave these bytes, or found no more if the list is empty
 abbrev pub one_reading : List ℕ → Readings
 one_reading bytes = record { bytes = bytes; last = Some (length bytes); ends = if length bytes == 0 then 1 else 0 }
 
@@ -102,7 +102,7 @@ one_reading bytes = record { bytes = bytes; last = Some (length bytes); ends = i
 abbrev pub both_readings : Readings → Readings → Readings
 both_readings a b = record { bytes = a.bytes ++ b.bytes; last = option_or b.last a.last; ends = a.ends + b.ends }
 
--- how an input is asked after some readings more
+-- how an input was read, after these further readings
 abbrev pub asked_after : Readings → Asked → Asked
 asked_after r a = record { last = unwrap_or r.last a.last; ends = a.ends + min r.ends (most_faults - a.ends) }
 
@@ -111,22 +111,22 @@ pub record Limits : Type 0 where
   pub failing : List ℕ
   pub room : unit.Unit → ℕ
 
--- what a host tells of its files and units, None where it tells nothing
+-- the files and units as a host reveals them, with None for each part that it does not reveal
 pub record World : Type 0 where
   pub in_use : unit.Unit → Bool
-  -- the name that each unit was bound to, None where it isn't bound or the name isn't kept; always told by every host
+  -- the name that each unit was bound to, None if it isn't bound or the name isn't kept; every host reveals the names
   pub names : unit.Unit → Option (List ℕ)
   pub file : List ℕ → Option (List ℕ)
   pub left : unit.Unit → Option (List ℕ)
   pub written : unit.Unit → Option (List ℕ)
-  -- the bytes that the pack has of each sector, at most 100: the last ones that were written to it, or those of the file
+  -- the bytes that the pack has of each sector, at most 100: the bytes last written to it, or the file's
   pub sectors : Option (ℕ → List ℕ)
-  -- how each input was asked
+  -- how each input was read
   pub asked : unit.Unit → Option Asked
   -- when its calls fail
   pub limits : Option Limits
 
--- the count of faults, and what is told
+-- the count of faults, and the revealed world
 pub record Seen : Type 0 where
   pub faults : ℕ
   pub world : World
@@ -146,7 +146,7 @@ abbrev pub is_output : unit.Unit → Bool
 is_output Pack = false
 is_output u = not (is_input u)
 
--- what is told of one unit is changed, and all others stay
+-- the value of one unit is changed, and all others stay
 abbrev pub at : {A : Type 0} → unit.Unit → (A → A) → (unit.Unit → A) → unit.Unit → A
 at u change told = λ v. if same_unit u v then change (told v) else told v
 
@@ -163,7 +163,7 @@ zero_character = 48
 abbrev pub with_zeros : ℕ → List ℕ → List ℕ
 with_zeros n text = text ++ replicate (n - length text) zero_character
 
--- the bytes that a file has of each sector: 100, or fewer or none where the file ends before
+-- the bytes that a file has of each sector: 100, or fewer if the file ends before
 abbrev pub sectors_of : List ℕ → ℕ → List ℕ
 sectors_of bytes a = take SECTOR_LENGTH (drop (SECTOR_LENGTH * a) bytes)
 
@@ -175,16 +175,16 @@ pack_sector_text sectors a = with_zeros SECTOR_LENGTH (sectors a)
 abbrev pub empty_pack : ℕ → List ℕ
 empty_pack a = []
 
--- and its sectors read as zeros
+-- the sectors of an empty pack read as zeros
 abbrev pub blank_pack : ℕ → List ℕ
 blank_pack a = pack_sector_text empty_pack a
 
--- the sectors once the pack's file is bound; a host that tells no sectors goes on telling none
+-- the sectors after the pack's file is bound; a host that reveals no sectors still reveals none
 abbrev pub sectors_after_binding : Option (List ℕ) → Option (ℕ → List ℕ) → Option (ℕ → List ℕ)
 sectors_after_binding file sectors = option_and_then (λ old. option_map sectors_of file) sectors
 
--- a file is bound: its name is kept, an input's bytes are the file's, an output has none, and a pack's sectors are those of
--- the file; an output's room does not come back
+-- a file is bound: its name is kept, an input's bytes or the pack's sectors are the file's, an output's text is empty; the
+-- room that the text took does not come back
 abbrev pub world_after_binding : unit.Unit → List ℕ → World → World
 world_after_binding u name w = record {
   in_use = λ v. if same_unit u v then true else w.in_use v;
@@ -197,7 +197,7 @@ world_after_binding u name w = record {
   limits = w.limits;
 }
 
--- the bytes that these readings gave are gone from the unit, and it was asked so
+-- the bytes that these readings gave are gone from the unit, and the readings are counted
 abbrev pub world_after_take : unit.Unit → Readings → World → World
 world_after_take u r w = record w {
   left = at u (option_map (drop (length r.bytes))) w.left;
@@ -224,23 +224,23 @@ world_after_put u bytes w = record w {
 abbrev pub BeginsWith : List ℕ → Option (List ℕ) → Type 0
 BeginsWith bytes text = IfSome text (λ all. all ≡ bytes ++ drop (length bytes) all)
 
--- The call did this to the world, and faults don't fall.
+-- the call changed the world to `to`, and the count of faults did not fall
 pub record Goes (old new : Seen) (to : World) : Type 0 where
   pub later : old.faults ≤ new.faults
   pub world : new.world ≡ to
 
--- The call failed: faults rose, and nothing else changed.
+-- the call failed: the count of faults rose, and nothing else changed
 pub record Fails (old new : Seen) : Type 0 where
   pub rose : Rose old.faults new.faults
   pub later : old.faults ≤ new.faults
   pub world : new.world ≡ old.world
 
--- what a binding does
+-- the effect of a binding
 abbrev pub Binds : Seen → Seen → unit.Unit → List ℕ → Bound → Type 0
 Binds old new u name bound.Yes = Goes old new (world_after_binding u name old.world)
 Binds old new u name bound.Failed = Fails old new
 
--- the first n bytes of buf were the next of the unit
+-- the first n bytes of `buf` were the unit's next bytes
 pub record Gets (old new : Seen) (u : unit.Unit) (buf : List ℕ) (n : ℕ) : Type 0 where
   pub some : 1 ≤ n
   pub fits : n ≤ length buf
@@ -252,7 +252,7 @@ pub record Ends (old new : Seen) (u : unit.Unit) : Type 0 where
   pub empty : IfSome (old.world.left u) (λ all. all ≡ [])
   pub goes : Goes old new (world_after_take u (one_reading []) old.world)
 
--- what a reading does, buf being the buffer that it leaves
+-- the effect of a reading, which leaves `buf` in the buffer
 abbrev pub Takes : Seen → Seen → unit.Unit → List ℕ → Take → Type 0
 Takes old new u buf (took.Got n) = Gets old new u buf n
 Takes old new u buf took.End = Ends old new u
@@ -264,7 +264,7 @@ pub record Adds (old new : Seen) (u : unit.Unit) (piece : List ℕ) (n : ℕ) : 
   pub fits : n ≤ length piece
   pub goes : Goes old new (world_after_put u (take n piece) old.world)
 
--- what a writing does
+-- the effect of a writing
 abbrev pub Puts : Seen → Seen → unit.Unit → List ℕ → Put → Type 0
 Puts old new u piece (put.Taken n) = Adds old new u piece n
 Puts old new u piece put.Failed = Fails old new
@@ -273,34 +273,34 @@ Puts old new u piece put.Failed = Fails old new
 abbrev pub with_sector : ℕ → List ℕ → (ℕ → List ℕ) → ℕ → List ℕ
 with_sector a bytes sectors b = if a == b then bytes else sectors b
 
--- a sector is written; zeros that fill a shorter file up before it are not told
+-- a sector is written; zeros that fill up a shorter file before it are not revealed
 abbrev pub with_sector_written : ℕ → List ℕ → World → World
 with_sector_written a bytes w = record w { sectors = option_map (with_sector a bytes) w.sectors }
 
--- the bytes are the sector's text, and the pack has what it had
+-- the bytes are the sector's text, and the world stays
 pub record GetsSector (old new : Seen) (a : ℕ) (bytes : List ℕ) : Type 0 where
   pub bytes_are : IfSome old.world.sectors (λ sectors. bytes ≡ pack_sector_text sectors a)
   pub goes : Goes old new old.world
 
--- what the reading of a sector does, bytes being those that it leaves in the buffer
+-- the effect of reading a sector, which leaves `bytes` in the buffer
 abbrev pub ReadsSector : Seen → Seen → ℕ → List ℕ → Drive → Type 0
 ReadsSector old new a bytes drive.Done = GetsSector old new a bytes
 ReadsSector old new a bytes drive.Failed = Fails old new
 
--- what the writing of a sector does
+-- the effect of writing a sector
 abbrev pub WritesSector : Seen → Seen → ℕ → List ℕ → Drive → Type 0
 WritesSector old new a bytes drive.Done = Goes old new (with_sector_written a bytes old.world)
 WritesSector old new a bytes drive.Failed = Fails old new
 
--- a file of this name is added, or takes the place of the one that was there
+-- a file of this name is added, or replaces the file that had the name
 abbrev pub with_file : List ℕ → List ℕ → World → World
 with_file name bytes w = record w { file = λ other. if bytes_eq name other then Some bytes else w.file other }
 
--- the world that a host tells has gained a file of this name with these bytes, and nothing else changed
+-- the world that a host reveals has gained a file of this name with these bytes, and nothing else changed
 abbrev pub GainsFile : {H : Type 0} → (H → World) → H → H → List ℕ → List ℕ → Type 0
 GainsFile world old new name bytes = world new ≡ with_file name bytes (world old)
 
--- the text of a sector, where the sectors are told
+-- the text of a sector, if the sectors are revealed
 abbrev pub sector_in : World → ℕ → Option (List ℕ)
 sector_in w a = option_map (λ sectors. pack_sector_text sectors a) w.sectors
 
@@ -312,7 +312,7 @@ IsUnnamed w = (u : unit.Unit) → w.names u ≡ None
 abbrev pub IsFree : World → Type 0
 IsFree w = (u : unit.Unit) → w.in_use u ≡ false
 
--- no text has a byte, where it's told
+-- no revealed text has a byte
 abbrev pub HasNoText : World → Type 0
 HasNoText w = (u : unit.Unit) → IfSome (w.written u) (λ text. text ≡ [])
 
@@ -321,7 +321,7 @@ pub record IsFresh (w : World) : Type 0 where
   pub free : IsFree w
   pub empty : HasNoText w
 
--- the world without a file and without limits; its texts and its pack are empty where they are told, and no input was asked
+-- the world without files and limits; its texts and its pack are empty if they are revealed, and no input was read
 abbrev pub no_files : Bool → World
 no_files tells = record {
   in_use = λ u. false;

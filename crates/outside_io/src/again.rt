@@ -1,4 +1,4 @@
-// Calls that are made again where a signal cut them short, or where the standard output is full for now.
+// Calls that are repeated if a signal interrupts them, or while the standard output is full.
 ghost use Rattle.std.specs.Prelude.{◌≤◌, length, IfOk};
 
 use std::io::{self, Error, ErrorKind, Read, Write};
@@ -32,7 +32,7 @@ pub(crate) fn write<F: Write>(file: &mut F, piece: &[u8]) -> io::Result<usize>
     Err(Error::from(ErrorKind::Interrupted))
 }
 
-// How many bytes a reading from this byte of a file on gave.
+// How many bytes a reading of the file gave, from byte `from` on.
 pub(crate) fn read_at<F: FileExt>(file: &F, buf: &mut [u8], from: u64) -> io::Result<usize>
     ensures { IfOk result (λ n. n ≤ length buf.new) }
 {
@@ -45,7 +45,7 @@ pub(crate) fn read_at<F: FileExt>(file: &F, buf: &mut [u8], from: u64) -> io::Re
     Err(Error::from(ErrorKind::Interrupted))
 }
 
-// How many bytes a writing from this byte of a file on took.
+// How many bytes a writing of the file took, from byte `from` on.
 pub(crate) fn write_at<F: FileExt>(file: &F, piece: &[u8], from: u64) -> io::Result<usize>
     ensures { IfOk result (λ n. n ≤ length piece.now) }
 {
@@ -58,7 +58,7 @@ pub(crate) fn write_at<F: FileExt>(file: &F, piece: &[u8], from: u64) -> io::Res
     Err(Error::from(ErrorKind::Interrupted))
 }
 
-// How many bytes the standard output took. One that never blocks and is full is waited for, a millisecond at a time.
+// How many bytes the standard output took. If it is full and doesn't block, the call waits a millisecond and tries again.
 pub(crate) fn write_screen<R: Print + Clock>(rt: &R, piece: &[u8]) -> io::Result<usize>
     ensures { IfOk result (λ n. n ≤ length piece.now) }
 {

@@ -1,4 +1,4 @@
-// The lock by which a run has the file of its pack for itself.
+// The lock that protects a pack's file from other runs.
 // Source: this project's own.
 use std::fs::{File, TryLockError};
 
@@ -7,15 +7,15 @@ use std::fs::{File, TryLockError};
 pub enum Sharing {
     /// Nobody: the run writes it.
     Alone,
-    /// Other runs that read it alone.
+    /// Other runs that only read it.
     WithReaders,
 }
 
-/// A file that a run can have for itself for as long as it is open.
+/// A file that a run can lock for as long as the file is open.
 pub trait Lockable {
-    /// Takes the file for this run; false where another run has it so that it can't be shared.
+    /// Locks the file for this run; false if another run's lock doesn't allow it.
     ///
-    /// Where the system has no locks for the file the answer is true, and nothing is locked.
+    /// If the system can't lock the file for another reason, the answer is true and nothing is locked.
     fn hold(&self, sharing: Sharing) -> bool;
 }
 

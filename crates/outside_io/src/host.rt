@@ -35,7 +35,7 @@ pub enum Unit {
     Image,
     /// Input: the deck that the Load key reads.
     Deck,
-    /// Input: the cards behind the deck.
+    /// Input: the data cards, which follow the deck.
     Data,
     /// Input: the lines that are typed on the keyboard.
     Keys,
@@ -88,7 +88,7 @@ impl Unit {
         self as usize
     }
 
-    /// Its word: its name in small letters, which the option of its file has behind two dashes.
+    /// Its word: its name in small letters. The option for its file is two dashes and this word.
     ///
     /// Source: this project's own.
     pub fn word(self) -> &'static str
@@ -141,7 +141,7 @@ impl Unit {
     }
 }
 
-// The count after one more fault; it stands still at its end.
+// The count after one more fault; it stays at 2^64 - 1.
 pub(crate) fn one_more(faults: u64) -> u64
     ensures rose { Rose faults result }
     ensures later { faults ≤ result }
@@ -161,7 +161,7 @@ pub enum Bound {
 /// How a reading ends.
 #[derive(Clone, Copy, Debug, PartialEq, Eq)]
 pub enum Take {
-    /// So many bytes, at least one, stand at the front of the buffer.
+    /// This many bytes, at least one, are at the front of the buffer.
     Got(usize),
     /// The unit has no more bytes.
     End,
@@ -172,7 +172,7 @@ pub enum Take {
 /// How a writing ends.
 #[derive(Clone, Copy, Debug, PartialEq, Eq)]
 pub enum Put {
-    /// So many bytes, at least one, were written from the front of the piece.
+    /// This many bytes, at least one, were written from the front of the piece.
     Taken(usize),
     /// The host failed: its count of faults rose, and nothing else changed.
     Failed,
@@ -183,48 +183,47 @@ pub enum Put {
 pub enum Drive {
     /// The sector is read or written.
     Done,
-    /// The host failed: its count of faults rose, and nothing else that it tells changed.
+    /// The host failed: its count of faults rose, and nothing else that it reveals changed.
     Failed,
 }
 
 /// The outside of the program.
 ///
-/// A host has a count of its faults, which never falls and stands still at 2^64 - 1. It may tell the bytes of its files, what each
-/// input has left, what each output has been given, what the pack has of its sectors, and how each input was asked: how many bytes the last
-/// reading that was answered gave, and how many readings found no more, which stands still at 2^64 - 1. It may reveal too which of its calls are
-/// to fail, and how many more bytes each output takes. Each of these may also be untold, and stays so.
-/// Which units are in use is always told, and so is the name that each was bound to, up to 255 bytes.
+/// A host has a count of its faults, which never falls and stays at 2^64 - 1. It may reveal the bytes of its files, the bytes
+/// that each input has left, the bytes that each output was given, and the bytes that the pack has of its sectors. It may reveal
+/// how each input was read: how many bytes the last reading that did not fail gave, and how many readings found no more, at most
+/// 2^64 - 1. It may also reveal which of its calls are to fail, and how many more bytes each output takes. A part that a host
+/// does not reveal stays hidden. Every host reveals which units are in use, and the name that each was bound to, up to 255 bytes.
 ///
-/// Each call changes only what its answer says, and all else stays but the count, which may rise. Each `Failed` comes only where the
-/// count rose in that call.
+/// Each call changes only what its answer says. All else stays, except that the count may rise. A call answers `Failed` only if
+/// the count rose in that call.
 /// Source: this project's own.
 pub trait Host {
-    /// The count of faults, and what the host tells of its files and units.
+    /// The count of faults, and the files and units as the host reveals them.
     ghost seen: { Self → Seen };
 
     /// Binds the file of this name to a unit that is not in use. The unit keeps the name, unless it has over 255 bytes. An input then
-    /// has the file's bytes left, an output has been given none, and the pack has of each sector what the file has.
+    /// has the file's bytes left, an output was given no byte, and the pack's sectors are the file's.
     fn bind(&mut self, unit: Unit, name: &str) -> Bound
         requires { (seen self.old).world.in_use unit ≡ false }
         ensures { Binds (seen self.old) (seen self.new) unit name.now result };
 
     /// Takes the next bytes of an input, as many as the host likes, up to the length of the buffer. An input that is not bound is
-    /// empty. Where it fails, no clause says what the buffer holds.
+    /// empty. If the call fails, the buffer may hold anything.
     fn take(&mut self, unit: Unit, buf: &mut [u8]) -> Take
         requires input { is_input unit ≡ true }
         requires room { 0 < length buf.old }
         ensures { Takes (seen self.old) (seen self.new) unit buf.new result };
 
-    /// Gives the first bytes of the piece to an output, as many as the host likes. An output that is not bound takes its bytes all
-    /// the same.
+    /// Gives the first bytes of the piece to an output, as many as the host likes. An output that is not bound also takes bytes.
     fn put(&mut self, unit: Unit, piece: &[u8]) -> Put
         requires output { is_output unit ≡ true }
         requires some { 0 < length piece.now }
         ensures { Puts (seen self.old) (seen self.new) unit piece.now result };
 
-    /// Reads a sector of the pack, 0 to 79,999, into the buffer. A sector that the file hasn't got, or only a part of, reads as filled up
-    /// with the character 0; it stays as it is. Where no pack is bound, a host that tells the sectors has nothing of them until they are
-    /// written. Where it fails, the buffer may be overwritten in part, and no clause says what it holds.
+    /// Reads a sector of the pack, 0 to 79,999, into the buffer. Bytes that the file lacks read as the character 0, and the file
+    /// stays as it is. If no pack is bound, a host that reveals the sectors has no byte of a sector until the sector is written.
+    /// If the call fails, the buffer may hold anything.
     fn read_sector(&mut self, a: u32, into: &mut [u8; SECTOR_LENGTH]) -> Drive
         requires { a < ALL_SECTORS }
         ensures { ReadsSector (seen self.old) (seen self.new) a into.new result };

@@ -1,4 +1,4 @@
-// Hosts in memory, for tests and rows: one that tells everything and fails where it is told to, and one that never fails.
+// Hosts in memory, for tests and rows: one reveals everything and fails at chosen calls, the other never fails.
 mod files;
 pub(crate) mod mem;
 mod pack;

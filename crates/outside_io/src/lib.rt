@@ -1,9 +1,10 @@
 //! Hosts: where the program's input comes from and where its output goes.
 //!
-//! All that the program reads and writes goes through the trait `Host`: bytes one after another, and the sectors of the pack by their
-//! numbers. A host has a count of its faults and tells what it knows of its files, its units and the pack's sectors; contracts say of
-//! each call what it changes of that, and that all else stays. `MemHost` tells everything and fails where a test wants it to,
-//! `QuietHost` never fails and tells its inputs alone, and `RealHost` works on files and the standard output and tells nothing of bytes.
+//! All that the program reads and writes goes through the trait `Host`: bytes one after another, and the sectors of the pack by
+//! their numbers. A host has a count of its faults, and may reveal its files, its units and the pack's sectors. The contract of
+//! each call says what the call changes of these, and that all else stays. `MemHost` reveals everything and fails at the calls
+//! that a test chooses. `QuietHost` never fails and reveals only its inputs. `RealHost` works on files and the standard output,
+//! and reveals no bytes.
 //!
 //! A text is bytes: `write_all` and `read_all` carry it whole, and `split_line` takes its lines off one after another.
 #![tactic(auto)]

@@ -7,7 +7,7 @@ use memchr::memchr;
 
 /// The text of a line without one CR at its end.
 ///
-/// A text that ends in no CR is given back as it is, and of two CRs only the last is dropped.
+/// A text without a CR at its end is given back as it is, and of two CRs only the last is dropped.
 pub fn without_return(text: &[u8]) -> &[u8]
     ensures { result.now ≡ without_return text.now }
 {
@@ -19,10 +19,10 @@ pub fn without_return(text: &[u8]) -> &[u8]
     }
 }
 
-/// The first line of some bytes, of any length, and the bytes behind it; `None` where there is no byte.
+/// The first line of some bytes, of any length, and the bytes after it; `None` if there is no byte.
 ///
-/// A line is ended by a LF; a last line without LF counts where it has a byte. The line comes without its LF and without one CR at
-/// its end. What stands behind it is shorter than `bytes`, and empty where no LF was found.
+/// A LF ends a line; a last line without LF counts if it has a byte. The line comes without its LF and without one CR at its end.
+/// The bytes after it are fewer than `bytes`, and none if there is no LF.
 pub fn split_line(bytes: &[u8]) -> Option<(&[u8], &[u8])>
     ensures none { IsNone result ↔ (bytes.now ≡ []) }
     ensures line { IfSome result (λ split. split.0.now ≡ first_text bytes.now) }

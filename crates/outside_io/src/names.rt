@@ -7,7 +7,7 @@ ghost use Rattle.outside_io.specs.declared.host.TheConstants.{LONGEST_NAME};
 use crate::Unit;
 use crate::host::{LONGEST_NAME, UNIT_COUNT};
 
-// A name: the first bytes of its room.
+// A name: the first `length` of `bytes`.
 #[derive(Clone, Copy)]
 struct KeptName {
     bytes: [u8; LONGEST_NAME],
@@ -33,7 +33,7 @@ impl KeptName {
     }
 }
 
-// The name of each unit, none where it isn't bound or its name is too long.
+// The name of each unit, None if it isn't bound or its name is too long.
 #[derive(Drop)]
 pub(crate) struct BoundNames {
     kept: [Option<KeptName>; UNIT_COUNT],
@@ -58,7 +58,7 @@ impl BoundNames {
         self.kept[unit.place()] = KeptName::new(name);
     }
 
-    // The name that is kept for the unit.
+    // The name that is kept for the unit, if any.
     pub(crate) fn get(&self, unit: Unit) -> Option<&[u8]>
         ensures { option_copied result ≡ name_of self.now unit }
     {

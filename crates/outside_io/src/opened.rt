@@ -1,4 +1,4 @@
-// The files that units are bound to: how each is opened, which file it is, and whether its old bytes are still to go.
+// The files that units are bound to: how each is opened, which file it is, and whether it still has old bytes.
 ghost use Rattle.std.specs.Prelude.{◌≡◌, ◌≤◌, length, false, IfOk, OnOk};
 ghost use Rattle.outside_io.specs.World.{IsUnmarked};
 ghost use Rattle.outside_io.specs.declared.host.Unit.TheVariants.{Report};
@@ -12,10 +12,10 @@ use std::io::{self, Read, Write};
 use std::os::unix::fs::MetadataExt;
 use std::rt::Files;
 
-// Where the system tells of the standard output's file.
+// The system's path to the standard output's file.
 const STANDARD_OUTPUT: &str = "/dev/stdout";
 
-// Which file a regular file is, under whatever name.
+// Tells one regular file from another, whatever their names.
 #[derive(Clone, Copy, PartialEq, Eq)]
 pub(crate) struct Identity {
     device: u64,
@@ -36,7 +36,7 @@ impl Identity {
     }
 }
 
-// Opens a unit's file, whose bytes stay. For a pack it is told who else may have the file.
+// Opens a unit's file, whose bytes stay. For a pack the answer has also who else may have the file.
 fn open_file<R: Files>(rt: &R, unit: Unit, name: &str) -> io::Result<(R::File, Option<Sharing>)> {
     if unit.is_input() {
         Ok((fs::open(rt, name)?, None))
@@ -50,7 +50,7 @@ fn open_file<R: Files>(rt: &R, unit: Unit, name: &str) -> io::Result<(R::File, O
     }
 }
 
-// Opens a pack's file to be read and written, or where it may not be written to be read alone.
+// Opens a pack's file for reading and writing, or only for reading if that fails.
 fn open_pack<R: Files>(rt: &R, name: &str) -> io::Result<(R::File, Sharing)> {
     let mut options = OpenOptions::new();
     options.read(true).write(true).create(true);
@@ -63,7 +63,7 @@ fn open_pack<R: Files>(rt: &R, name: &str) -> io::Result<(R::File, Sharing)> {
     }
 }
 
-// Takes the file for this run where it is a pack's.
+// Locks the file for this run if it is a pack's.
 fn hold<F: Lockable>(file: &F, sharing: Option<Sharing>) -> Result<(), Cause> {
     match sharing {
         Some(sharing) if !file.hold(sharing) => Err(Cause::InUse),
@@ -71,7 +71,7 @@ fn hold<F: Lockable>(file: &F, sharing: Option<Sharing>) -> Result<(), Cause> {
     }
 }
 
-// Opens a file to be read, which a folder is not.
+// Opens a file for reading; a folder is an error.
 fn open_to_read<R: Files>(rt: &R, name: &str) -> io::Result<R::File> {
     let file = fs::open(rt, name)?;
     if file.metadata()?.is_dir() {
@@ -80,9 +80,9 @@ fn open_to_read<R: Files>(rt: &R, name: &str) -> io::Result<R::File> {
     Ok(file)
 }
 
-// By the place of each unit: its file and which file that is, none where the unit is not bound, and whether the file is an output's that
-// was given no byte yet, so that it still has the bytes of before; and whether it is a regular file that was read to its end. After all old
-// bytes were taken away they are not looked for again, until a file is bound.
+// By each unit's place: its file, None if the unit is not bound; the identity of a regular file; whether the file is an output's
+// that was not emptied yet, so that it has its old bytes; and whether it is a regular file that was read to its end. `may_be_old`
+// is false after all old bytes were removed, until the next file is bound: then `empty_all` isn't needed.
 #[derive(Drop)]
 pub(crate) struct OpenFiles<F> {
     files: [Option<F>; UNIT_COUNT],
@@ -107,7 +107,7 @@ impl<F: Read + Write + OpenFile + Lockable + Drop> OpenFiles<F> {
         }
     }
 
-    // Opens the unit's file and binds it, unless it is in use so that bytes could be lost.
+    // Opens the unit's file and binds it, unless another use of the file could lose bytes.
     pub(crate) fn open<R: Files<File = F>>(
         &mut self,
         rt: &R,
@@ -124,7 +124,7 @@ impl<F: Read + Write + OpenFile + Lockable + Drop> OpenFiles<F> {
         Ok(())
     }
 
-    // Refuses a file that another unit has, unless both read it, and the standard output's.
+    // Refuses a file that another unit has, unless both units are inputs. Also refuses the standard output's file.
     fn permit<R: Files>(&self, rt: &R, unit: Unit, identity: Identity) -> Result<(), Cause> {
         if let Some(other) = self.rival(unit, identity) {
             return Err(Cause::SameFile(other));
@@ -145,7 +145,7 @@ impl<F: Read + Write + OpenFile + Lockable + Drop> OpenFiles<F> {
         self.is_read[place] = false;
     }
 
-    // Another unit with the same file, where one of the two would be written.
+    // A unit that has this file already, unless both units are inputs.
     fn rival(&self, unit: Unit, identity: Identity) -> Option<Unit> {
         for other in Unit::ALL {
             let is_read = unit.is_input() && other.is_input();
@@ -156,7 +156,7 @@ impl<F: Read + Write + OpenFile + Lockable + Drop> OpenFiles<F> {
         None
     }
 
-    // How many bytes were read, none at the end or where nothing is bound. A regular file that was read to its end isn't asked again.
+    // How many bytes were read: 0 at the end, or if no file is bound. A regular file is not read again after its end.
     pub(crate) fn read(&mut self, unit: Unit, buf: &mut [u8]) -> io::Result<usize>
         ensures { IfOk result (λ n. n ≤ length buf.new) }
     {
@@ -174,7 +174,7 @@ impl<F: Read + Write + OpenFile + Lockable + Drop> OpenFiles<F> {
         }
     }
 
-    // How many bytes were written, all where nothing is bound.
+    // How many bytes were written: all if no file is bound.
     pub(crate) fn write(&mut self, unit: Unit, piece: &[u8]) -> io::Result<usize>
         ensures fits { IfOk result (λ n. n ≤ length piece.now) }
         ensures old { self.new.is_old ≡ self.old.is_old }
@@ -186,8 +186,7 @@ impl<F: Read + Write + OpenFile + Lockable + Drop> OpenFiles<F> {
         }
     }
 
-    // Takes the old bytes away that have to go before a byte is given to the unit: those of its own file, and before Report those of all
-    // outputs.
+    // Removes the old bytes that must go before the unit is given a byte: its own file's, or before Report every output's.
     pub(crate) fn make_way(&mut self, unit: Unit) -> Result<(), Trouble>
         ensures { OnOk result (unit ≡ Report → HasNoOldBytes self.new) }
     {
@@ -198,7 +197,7 @@ impl<F: Read + Write + OpenFile + Lockable + Drop> OpenFiles<F> {
         }
     }
 
-    // Takes the old bytes away, if they are still there.
+    // Removes the old bytes of the unit's file, if they are still there.
     fn empty(&mut self, unit: Unit) -> Result<(), Trouble>
         ensures { OnOk result (LosesOldBytes self.old self.new unit) }
     {
@@ -214,7 +213,7 @@ impl<F: Read + Write + OpenFile + Lockable + Drop> OpenFiles<F> {
         Ok(())
     }
 
-    // Takes the old bytes away from all outputs, up to the first at which that fails.
+    // Removes the old bytes of all outputs, up to the first output at which that fails.
     fn empty_all(&mut self) -> Result<(), Trouble>
         ensures { OnOk result (HasNoOldBytes self.new) }
     {
@@ -225,7 +224,7 @@ impl<F: Read + Write + OpenFile + Lockable + Drop> OpenFiles<F> {
         Ok(())
     }
 
-    // The file of the pack, none where no pack is bound.
+    // The pack's file, None if no pack is bound.
     pub(crate) fn pack(&mut self) -> &mut Option<F> {
         let place = Unit::Pack.place();
         &mut self.files[place]

@@ -1,5 +1,5 @@
-// The sectors of a pack in its file: sector a stands from byte 100a on. Each is read and written at its place by one call of the system, wherever
-// the file stands.
+// The sectors of a pack in its file: sector a begins at byte 100a. Each is read and written by its offset, so that the file's own
+// position has no effect.
 ghost use Rattle.std.specs.Prelude.{◌≡◌, ◌≤◌, ◌<◌, ◌+◌, ◌*◌, length, false, IsOk, OnOk, OnErr, IfNone};
 ghost use Rattle.outside_io.specs.declared.host.TheConstants.{ALL_SECTORS, SECTOR_LENGTH};
 ghost use Rattle.outside_io.specs.Scratch.{scratch_sectors, scratch_room, WritesScratch, KeepsScratch};
@@ -11,20 +11,20 @@ use crate::trouble::Cause;
 use std::io::{Error, Seek, SeekFrom};
 use std::os::unix::fs::FileExt;
 
-// How many zeros a file is filled up with at a time: the sectors of a cylinder.
+// How many zeros are written at a time to fill up a file: the sectors of a cylinder.
 const FILLING: usize = 20_000;
 
 // Zeros to fill a file up with.
 const ZEROS: [u8; FILLING] = [b'0'; FILLING];
 
-// Where the sector begins.
+// The byte of the file at which the sector begins.
 fn start_of(a: u32) -> u64
     ensures { result ≡ SECTOR_LENGTH * a }
 {
     SECTOR_LENGTH as u64 * u64::from(a)
 }
 
-// Reads a sector, which is the scratch pack's where the pack is not in use.
+// Reads a sector of the pack's file, or of the scratch pack if no file is in use.
 pub(crate) fn read_sector<F: FileExt>(
     is_in_use: bool,
     pack: &Option<F>,
@@ -45,8 +45,8 @@ pub(crate) fn read_sector<F: FileExt>(
     }
 }
 
-// Writes a sector, into the scratch pack where the pack is not in use; that fails only where there is no memory for it. The file is known to
-// have at least so many bytes.
+// Writes a sector to the pack's file, or to the scratch pack if no file is in use. The scratch pack fails only if memory lacks.
+// `has` is a number of bytes that the file is known to have.
 pub(crate) fn write_sector<F: FileExt + Seek>(
     is_in_use: bool,
     pack: &mut Option<F>,
@@ -70,7 +70,7 @@ pub(crate) fn write_sector<F: FileExt + Seek>(
     }
 }
 
-// Reads a sector, with zeros for the bytes that the file hasn't got. By itself, so that a pack in memory does not pay for it.
+// Reads a sector, with zeros for the bytes that the file lacks. Not inlined, so that a pack in memory does not pay for it.
 #[inline(never)]
 fn read_from<F: FileExt>(file: &F, a: u32, into: &mut [u8; SECTOR_LENGTH]) -> Result<(), Cause> {
     let start = start_of(a);
@@ -85,7 +85,7 @@ fn read_from<F: FileExt>(file: &F, a: u32, into: &mut [u8; SECTOR_LENGTH]) -> Re
     Ok(())
 }
 
-// Writes a sector, behind zeros where the file ends before it. By itself, as the reading is.
+// Writes a sector, after filling up a file that ends before it. Not inlined, as `read_from`.
 #[inline(never)]
 fn write_to<F: FileExt + Seek>(
     file: &mut F,
@@ -102,7 +102,7 @@ fn write_to<F: FileExt + Seek>(
     Ok(())
 }
 
-// Fills a shorter file up to this length with zeros. Where it is not known to have so many bytes, the system is asked where it ends.
+// Fills up a shorter file with zeros, to `wanted` bytes. If `has` is less, the file's length is first taken from the system.
 fn fill_up<F: FileExt + Seek>(file: &mut F, has: &mut u64, wanted: u64) -> Result<(), Cause>
     requires { wanted ≤ SECTOR_LENGTH * ALL_SECTORS }
 {
@@ -117,7 +117,7 @@ fn fill_up<F: FileExt + Seek>(file: &mut F, has: &mut u64, wanted: u64) -> Resul
     Ok(())
 }
 
-// Writes all the bytes from this byte of the file on; a write that takes none has failed too. They lie within a pack.
+// Writes all the bytes from byte `from` of the file on, within a pack's length. A write that takes no byte is an error.
 fn write_whole<F: FileExt>(file: &F, bytes: &[u8], from: u64) -> Result<(), Cause>
     requires { from + length bytes.now ≤ SECTOR_LENGTH * ALL_SECTORS }
 {

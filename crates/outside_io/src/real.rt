@@ -1,4 +1,4 @@
-// The host over real files and the standard output: it tells nothing of the bytes.
+// The host over real files and the standard output: it reveals no bytes.
 // Source: this project's own.
 ghost use Rattle.std.specs.Prelude.{◌≡◌, ◌≤◌, ◌<◌, length, false, true, None, option_copied, IfOk, IfSome};
 ghost use Rattle.outside_io.specs.World.{IsFree, IsUnnamed, Fails, Binds, Takes, Puts, ReadsSector, WritesSector, is_input, is_output, put_failed};
@@ -38,7 +38,7 @@ where
     }
 }
 
-// The same for bytes of which at least one is taken, after old bytes made way.
+// Removes old bytes, then writes as `write_some`; if no byte is taken, that is an error.
 fn write_out<R: Files + Print + Clock>(
     rt: &R,
     files: &mut OpenFiles<R::File>,
@@ -67,29 +67,31 @@ where
 
 /// The host of the program that a user runs: files by their names, and the standard output.
 ///
-/// It tells which units are in use and under which names, and nothing of any bytes. What is typed and reported goes to the standard
-/// output where these units are not bound; what is written to another output that is not bound is dropped. Each error of the system
-/// counts as a fault, and `trouble` tells the last one.
+/// It reveals which units are in use and under which names, but no bytes. The bytes of Typed and Report go to the standard output
+/// if these units are not bound; the bytes of another output that is not bound are dropped. Each failure counts as a fault, and
+/// `trouble` gives the last one.
 ///
-/// A file that an output or the pack is bound to is made where it is not there. An old file of an output keeps its bytes until the first
-/// byte is given to it or to Report; then it is emptied. So a job that fails before its report leaves the old files of outputs without a
-/// byte as they were, and after the first byte of the report nothing is left to be emptied. If a file can't be emptied the `put` fails,
-/// and gives no byte.
+/// The file of an output or of the pack is made if it does not exist. An old file of an output keeps its bytes until the first
+/// byte is given to this output or to Report; then it is emptied. So if a job fails before its report, an output that was given
+/// no byte keeps its old file. After the first byte of the report no file is left to be emptied. If a file can't be emptied the
+/// `put` fails, and gives no byte.
 ///
-/// A file that is bound twice is refused unless both units are inputs, whichever comes first: by the same name, by another name of the
-/// file or by a symbolic link. So is the file that the standard output goes to, for any unit. No such file loses a byte. A file that was
-/// made just then may stay, empty. Devices and pipes are never refused.
+/// A file that another unit has is refused, under any name or symbolic link, unless both units are inputs. The file that the
+/// standard output goes to is refused for any unit. A refused file loses no byte; if it was made for this call, it may stay,
+/// empty. Devices and pipes are never refused.
 ///
-/// A pack's file that may not be written is opened to be read alone: then the first writing of a sector fails. Sector a of the pack
-/// stands in its file from byte 100a on, and bytes that the file hasn't got read as the character 0. The file is locked for as long as
-/// the host is there: a second run that would write it, or that reads what the first one writes, is refused. Where the file ends before a sector
-/// that is written, it is filled up to there with the character 0. A writing that fails may leave such characters, and a first part of
-/// the sector, in the file. Where no file is bound the pack is a blank one in memory, which goes with the host. A host that was lent the room
-/// for it takes no memory, and no writing of a sector fails there. Any other takes memory as that pack is written, for the sectors up to the
-/// last one that is written, 8,000,000 bytes at most, and a writing fails where there is none for it.
+/// If a pack's file can't be opened for writing, it is opened only for reading: then the writing of a sector fails. Sector a of
+/// the pack begins at byte 100a of its file, and bytes that the file lacks read as the character 0. The file is locked as long as
+/// the host exists: a second run is refused if it or the first run has the file for writing. If the file ends before a sector
+/// that is written, it is filled up to there with the character 0. A writing that fails may leave these characters, and a first
+/// part of the sector, in the file.
 ///
-/// A standard output that never blocks is waited for while it is full. A call that a signal cut short is made again.
-/// What files and the standard output do is trusted.
+/// If no file is bound to the pack, it is a blank one in memory, which ends with the host. A host that was given the room for it
+/// takes no memory, and no writing of a sector fails there. Any other host takes memory for the sectors up to the last one that
+/// is written, at most 8,000,000 bytes, and a writing fails if there is no memory for it.
+///
+/// The host waits while a standard output that doesn't block is full. It repeats a call that a signal interrupted.
+/// The behavior of files and the standard output is trusted.
 #[derive(Drop)]
 pub struct RealHost<'a, R: Files> {
     rt: &'a R,
@@ -106,7 +108,7 @@ impl<'a, R: Files + Print + Clock + AllocGlobal> RealHost<'a, R>
 where
     R::File: Lockable,
 {
-    /// A host with no unit in use, over the runtime that it is lent. It takes memory as a pack without a file is written.
+    /// A host with no unit in use, over the runtime `rt`. It takes memory for sectors written while no file is bound to the pack.
     pub fn new(rt: &'a R) -> Self
         ensures faults { (real_seen result).faults ≡ 0 }
         ensures free { IsFree (real_seen result).world }
@@ -116,8 +118,8 @@ where
         RealHost::with_pack_room(rt, None)
     }
 
-    /// A host with no unit in use, over the runtime and the room for a blank pack that it is lent. With room it takes no memory, also where a
-    /// pack without a file is written; with none it is as by `new`.
+    /// A host with no unit in use, over the runtime `rt` and the room for a blank pack. With room it takes no memory, even if
+    /// sectors are written while no file is bound to the pack; without room it is the host of `new`.
     pub fn with_pack_room(rt: &'a R, room: Option<PackRoom>) -> Self
         ensures faults { (real_seen result).faults ≡ 0 }
         ensures free { IsFree (real_seen result).world }
@@ -144,7 +146,7 @@ where
         self.faults.last()
     }
 
-    // Counts a fault, and keeps what it was.
+    // Counts a fault, and keeps its description.
     fn fail(&mut self, trouble: Trouble)
         ensures fails { Fails (real_seen self.old) (real_seen self.new) }
         ensures room { pack_room self.new ≡ pack_room self.old }

@@ -9,7 +9,7 @@ use std::alloc::{AllocError, Global};
 
 /// The room for a blank pack: the memory of all its 80,000 sectors, 8,000,000 bytes.
 ///
-/// It is reserved and not filled: where the system gives memory as it is touched, a sector that is never reached costs nothing.
+/// It is reserved and not filled: if the system gives memory only when it is touched, a sector that is never used costs nothing.
 #[derive(Drop)]
 pub struct PackRoom {
     sectors: Vec<[u8; SECTOR_LENGTH]>,
@@ -36,7 +36,7 @@ pub(crate) struct ScratchPack {
 impl ScratchPack {
     ghost use Rattle.outside_io.specs.Scratch.{scratch_sectors, scratch_room, WritesScratch, KeepsScratch};
 
-    // A blank pack: in this room, or where that is none without memory yet.
+    // A blank pack in this room, or without memory yet if there is no room.
     pub(crate) fn new(alloc: Global, room: Option<PackRoom>) -> Self
         ensures blank { (a : ℕ) → scratch_sectors result a ≡ blank_pack a }
         ensures room { IfSome room (λ _. ALL_SECTORS ≤ scratch_room result) }
@@ -64,7 +64,7 @@ impl ScratchPack {
         }
     }
 
-    // Takes the memory of the sectors up to this one, where it has none for them yet.
+    // Adds blank sectors up to this one, if it has fewer.
     fn reach(&mut self, a: usize) -> Result<(), AllocError>
         requires { a < ALL_SECTORS }
         ensures reached { OnOk result (a < length self.new.sectors.items) }
@@ -78,8 +78,8 @@ impl ScratchPack {
         Ok(())
     }
 
-    // Writes a sector. Within its room that takes no memory and cannot fail; where there is no memory for the sectors up to this one nothing
-    // changes.
+    // Writes a sector. Within its room that takes no memory and cannot fail. If there is no memory for the sectors up to this
+    // one, nothing changes.
     pub(crate) fn set(&mut self, a: u32, text: &[u8; SECTOR_LENGTH]) -> Result<(), AllocError>
         requires { a < ALL_SECTORS }
         ensures ok { OnOk result (WritesScratch self.old self.new a text.now) }

@@ -28,15 +28,15 @@ pub enum Doing {
 /// Why the host over files failed.
 #[derive(Debug, Drop)]
 pub enum Cause {
-    /// The system's error. Where there is no memory for the blank pack, its kind is out of memory.
+    /// The system's error. If there is no memory for the blank pack, its kind is out of memory.
     System(Error),
-    /// The file is already bound to this other unit, and one of the two would be written.
+    /// The file is already bound to this other unit, and the two units are not both inputs.
     SameFile(Unit),
-    /// The file is the one that the standard output goes to.
+    /// The standard output goes to this file.
     StandardOutput,
     /// Another run has the pack's file, and one of the two would write it.
     InUse,
-    /// The system took no byte of what was to be written.
+    /// The system took none of the bytes to be written.
     NothingTaken,
 }
 
@@ -48,19 +48,19 @@ impl From<Error> for Cause {
     }
 }
 
-/// A failure of the host over files: at which unit, in doing what, and why.
+/// A failure of the host over files: the unit, the action that failed, and the cause.
 #[derive(Debug, Drop)]
 pub struct Trouble {
     /// The unit of the call; if an output's file could not be emptied before the report, that output.
     pub unit: Unit,
-    /// What was being done.
+    /// The action that failed.
     pub doing: Doing,
     /// Why it failed.
     pub cause: Cause,
 }
 
 impl Trouble {
-    // A failure that the system told.
+    // A failure whose cause is the system's error.
     pub(crate) fn of_system(unit: Unit, doing: Doing, error: Error) -> Self {
         Trouble {
             unit,

@@ -42,8 +42,8 @@ impl From<AllocError> for ReadAll {
 
 /// Writes the whole piece to an output, in as many calls as the host wants.
 ///
-/// `Done`: the piece was added to what the output has been given. `Failed` only where the host's count of faults rose: a first part
-/// of the piece was added.
+/// `Done`: the output was given the whole piece. `Failed`, only if the host's count of faults rose: the output was given a first
+/// part of the piece.
 pub fn write_all<H: Host>(host: &mut H, unit: Unit, piece: &[u8]) -> Sent
     requires { is_output unit ≡ true }
     ensures { Sends (H.seen host.old) (H.seen host.new) unit piece.now result }
@@ -58,10 +58,10 @@ pub fn write_all<H: Host>(host: &mut H, unit: Unit, piece: &[u8]) -> Sent
     Sent::Done
 }
 
-/// Reads all that an input has left, where that is at most `limit` bytes.
+/// Reads all the bytes that an input has left, if these are at most `limit`.
 ///
-/// No more than one byte over the limit is ever taken. The errors are a unit with more bytes, of which `limit + 1` are gone then; a
-/// fault of the host, after at most `limit` bytes; and want of memory for the bytes that are gone, which are 1 to `limit`.
+/// It takes at most one byte over the limit. The errors are a unit with more bytes, after `limit + 1` of them are gone; a fault
+/// of the host, after at most `limit` bytes are gone; and want of memory, after 1 to `limit` bytes are gone.
 pub fn read_all<H: Host>(
     alloc: Global,
     host: &mut H,

@@ -10,9 +10,9 @@ use std::test::Fail;
 #[derive(Clone, Copy)]
 pub(crate) struct Failure {
     pub(crate) status: Status,
-    // the system's error that came last: at which unit, in doing what, and of which kind
+    // the last failure, if it is a system error: its unit, the action that failed, and the error's kind
     pub(crate) system_error: Option<(Unit, Doing, ErrorKind)>,
-    // the unit that was refused a file last, and the unit that has the file
+    // the last failure, if it is a refused file: the unit that was refused it, and the unit that has the file
     pub(crate) refused: Option<(Unit, Unit)>,
 }
 
@@ -25,7 +25,7 @@ fn words_of(alloc: Global, line: &str) -> Result<Vec<String>, AllocError> {
     Ok(words)
 }
 
-// Does what the words of a line say over the files of this folder: the status, and the host with its trouble.
+// Does the job of a line's words over the files of this folder, and gives its status and the host with its last failure.
 fn done<'a>(
     rt: &'a HostRuntime,
     line: &str,
@@ -36,13 +36,13 @@ fn done<'a>(
     Ok((status, host))
 }
 
-// What the words of a line answer.
+// The status of the job of a line's words.
 pub(crate) fn answered(rt: &HostRuntime, line: &str) -> Result<Status, AllocError> {
     let (status, _host) = done(rt, line)?;
     Ok(status)
 }
 
-// What they answer if the host has no trouble.
+// The status of the job of a line's words, None if the host had a failure.
 pub(crate) fn untroubled(rt: &HostRuntime, line: &str) -> Result<Option<Status>, AllocError> {
     let (status, host) = done(rt, line)?;
     if host.trouble().is_none() {
@@ -52,7 +52,7 @@ pub(crate) fn untroubled(rt: &HostRuntime, line: &str) -> Result<Option<Status>,
     }
 }
 
-// What they answer, and the host's trouble.
+// The status of the job of a line's words, and the host's last failure.
 pub(crate) fn failed(rt: &HostRuntime, line: &str) -> Result<Failure, AllocError> {
     let (status, host) = done(rt, line)?;
     Ok(Failure {
@@ -62,7 +62,7 @@ pub(crate) fn failed(rt: &HostRuntime, line: &str) -> Result<Failure, AllocError
     })
 }
 
-// A system's error: at which unit, in doing what, and of which kind.
+// A system error: its unit, the action that failed, and the error's kind.
 fn system_error(trouble: Option<&Trouble>) -> Option<(Unit, Doing, ErrorKind)> {
     match trouble {
         Some(
@@ -76,7 +76,7 @@ fn system_error(trouble: Option<&Trouble>) -> Option<(Unit, Doing, ErrorKind)> {
     }
 }
 
-// A unit that was refused a file, and the unit that has the file.
+// A refused file: the unit that was refused it, and the unit that has the file.
 fn refused(trouble: Option<&Trouble>) -> Option<(Unit, Unit)> {
     match trouble {
         Some(

@@ -10,7 +10,7 @@ const WRITES: &[u8] = b"34000360070138000360070248000000000010000500100000";
 // A halt at the program's start.
 const HALT: &[u8] = b"     START H\n           DENDSTART\n";
 
-// The pack's file ends before the sector: it is filled up with zeros, and all that was there stays.
+// The pack's file ends before the sector: it is filled up with zeros, and its old bytes stay.
 #[test]
 fn a_sector_goes_to_a_shorter_pack(rt: HostRuntime) -> Result<(), Fail> {
     fs::write(&rt, "deck", WRITES)?;
@@ -25,7 +25,7 @@ fn a_sector_goes_to_a_shorter_pack(rt: HostRuntime) -> Result<(), Fail> {
     Ok(())
 }
 
-// What was in the outputs' files before is gone.
+// The output's file has lost its old bytes.
 #[test]
 fn an_image_goes_to_its_file(rt: HostRuntime) -> Result<(), Fail> {
     fs::write(&rt, "source", HALT)?;
@@ -74,14 +74,14 @@ fn a_made_source_goes_to_its_file(rt: HostRuntime) -> Result<(), Fail> {
     Ok(())
 }
 
-// A source that is not there is a fault of the host.
+// A source that does not exist is a fault of the host.
 #[test]
 fn a_source_that_is_not_there(rt: HostRuntime) -> Result<(), Fail> {
     assert!(rt; answered(&rt, "assemble --source nowhere")? == Status::HostFault);
     Ok(())
 }
 
-// A job that fails at the report's file, after those of deck and image were bound, leaves these as they were.
+// A job that fails at the report's file, after the files of Object and Image were bound, leaves these two as they were.
 #[test]
 fn a_job_that_fails_leaves_old_outputs(rt: HostRuntime) -> Result<(), Fail> {
     let before = b"of before".as_slice();
@@ -99,7 +99,7 @@ fn a_job_that_fails_leaves_old_outputs(rt: HostRuntime) -> Result<(), Fail> {
     Ok(())
 }
 
-// A source that is named for output too stays whole.
+// A source whose file is also named for an output stays whole.
 #[test]
 fn a_source_is_not_written_over(rt: HostRuntime) -> Result<(), Fail> {
     fs::write(&rt, "source_twice", HALT)?;

@@ -7,7 +7,7 @@ use std::fs;
 use std::io::ErrorKind;
 use std::test::Fail;
 
-// What stands in an output's file before the job: longer than what is written then, but for an object deck.
+// The old bytes of an output's file: longer than the bytes that the job writes, except for an object deck.
 const OLD: &[u8] = &[b'X'; 200];
 
 // The card that types five digits and halts.
@@ -19,13 +19,13 @@ const HALTS: &[u8] = b"480000000000\n";
 // Seeks cylinder 0, reads the sectors 0 and 1 to 01000, and goes there.
 const READS_SECTORS: &[u8] = b"34000360070136000360070249010000000010000000201000\n";
 
-// Reads a card and a line of the keyboard, types the one, punches the other and halts; then it writes the line to sector 5, and halts
-// again. The first card reads the second one behind its halt, to 00072.
+// Reads a card and a line of the keyboard, types the card, punches the line and halts; then it writes the line to sector 5, and
+// halts again. The first card reads the second card to 00072, the address after its halt.
 const TWO_CARDS: &[u8] = b"\
 360007200500360040000500360050000100380040000100380050000400480000000000\n\
 34001080070138001080070248000000000010000500100500\n";
 
-// The same as a source: CARD is 00512, LINE is 00592, and PLACE is 00498.
+// The same program as a source: CARD is 00512, LINE is 00592, and PLACE is 00498.
 const SOURCE: &[u8] = b"\
 \x20    START RNCDCARD\n\
 \x20          RNTYLINE\n\
@@ -79,7 +79,7 @@ fn write_files(rt: &HostRuntime) -> Result<(), Fail> {
     Ok(())
 }
 
-// Words with one option of `load`, its file's name, the deck, the status, and what that file holds before the job and behind it.
+// Words with one option of `load`, its file's name, the deck, the status, and the bytes of this file before and after the job.
 struct Row {
     line: &'static str,
     name: &'static str,
@@ -90,7 +90,7 @@ struct Row {
 }
 
 const ROWS: [Row; 9] = [
-    // the card of the data is read behind the first instruction, and is the second one
+    // the data card is read to the place after the first instruction, and is the second instruction
     Row {
         line: "load --deck deck --data data",
         name: "data",
@@ -99,7 +99,7 @@ const ROWS: [Row; 9] = [
         before: HALTS,
         after: HALTS,
     },
-    // so is the line of the keyboard
+    // likewise the line of the keyboard
     Row {
         line: "load --deck deck --keys keys",
         name: "keys",
@@ -108,7 +108,7 @@ const ROWS: [Row; 9] = [
         before: HALTS,
         after: HALTS,
     },
-    // a halt behind a halt
+    // a halt after a halt
     Row {
         line: "load --deck deck --script script",
         name: "script",
@@ -126,7 +126,7 @@ const ROWS: [Row; 9] = [
         before: b"480000000000",
         after: b"480000000000",
     },
-    // the card itself
+    // the card of the deck punches itself
     Row {
         line: "load --deck deck --punched punched",
         name: "punched",
@@ -135,7 +135,7 @@ const ROWS: [Row; 9] = [
         before: OLD,
         after: b"38000000040048000000000000000000000000000000000000000000000000000000000000000000\n",
     },
-    // no card
+    // no card is punched
     Row {
         line: "load --deck deck --punched punched",
         name: "punched",
@@ -160,7 +160,7 @@ const ROWS: [Row; 9] = [
         before: OLD,
         after: b"HALT 00000 STEPS 1\n",
     },
-    // a branch to itself; a limit is no file
+    // a branch to itself; a limit is not a file
     Row {
         line: "load --deck deck --limit 5",
         name: "5",
@@ -184,7 +184,7 @@ fn each_option_by_itself(rt: HostRuntime) -> Result<(), Fail> {
     Ok(())
 }
 
-// The words with all options, the status, and what the files of image and report hold then: `load` names no image.
+// The words with all options, the status, and the bytes of the files of Image and Report after the job: `load` names no image.
 const WHOLE: [(&str, Status, &[u8], &[u8]); 2] = [
     (
         LOAD_WITH_ALL,
@@ -221,7 +221,7 @@ fn all_options_together(rt: HostRuntime) -> Result<(), Fail> {
     Ok(())
 }
 
-// The 110 digits of the image have no flag: four cards of at most 32 digits, between those of the tables and the jump to the start.
+// The 110 digits of the image have no flag: four cards of at most 32 digits, between the tables' cards and the transfer card.
 #[test]
 fn a_run_makes_the_deck_of_an_assembly(rt: HostRuntime) -> Result<(), Fail> {
     write_files(&rt)?;
@@ -236,7 +236,7 @@ fn a_run_makes_the_deck_of_an_assembly(rt: HostRuntime) -> Result<(), Fail> {
     Ok(())
 }
 
-// A pack that is not there is made, and reading leaves it empty: the digits that are read are zeros, and no instruction.
+// A pack that does not exist is made, and reading leaves it empty: the digits that are read are zeros, and not an instruction.
 #[test]
 fn a_pack_that_is_made_and_read(rt: HostRuntime) -> Result<(), Fail> {
     fs::write(&rt, "deck", READS_SECTORS)?;
@@ -286,7 +286,7 @@ fn an_input_that_is_missing(rt: HostRuntime) -> Result<(), Fail> {
 // Files that no test makes.
 const NOTHING: &str = "load --deck no_deck --pack no_pack --typed no_typed --report no_report";
 
-// Outputs that are not there are not made either, where the deck is missing.
+// If the deck is missing, outputs that do not exist are not made.
 #[test]
 fn nothing_is_made_without_a_deck(rt: HostRuntime) -> Result<(), Fail> {
     assert!(rt; answered(&rt, NOTHING)? == Status::HostFault);
@@ -299,9 +299,10 @@ fn nothing_is_made_without_a_deck(rt: HostRuntime) -> Result<(), Fail> {
 // Reads a line of the keyboard, punches the card itself, types five digits, and halts.
 const USES_ALL: &[u8] = b"36001000010038000000040038000600010048000000000000000000000012345|\n";
 
-// Words, at which unit the job fails, in doing what, with an error of which kind. Other outputs are named, and stay as they were.
+// Words, the unit at which the job fails, the action that fails, and the error's kind. Other named outputs get no byte, except
+// Typed in the last row.
 const FAILURES: [(&str, Unit, Doing, ErrorKind); 18] = [
-    // a folder opens to be read, but gives no bytes
+    // a folder opens for reading, but gives no bytes
     (
         "load --deck . --report report",
         Unit::Deck,
@@ -338,7 +339,7 @@ const FAILURES: [(&str, Unit, Doing, ErrorKind); 18] = [
         Doing::Read,
         ErrorKind::IsADirectory,
     ),
-    // it does not open to be written
+    // a folder does not open for writing
     (
         "load --deck deck --pack .",
         Unit::Pack,
@@ -351,7 +352,7 @@ const FAILURES: [(&str, Unit, Doing, ErrorKind); 18] = [
         Doing::Open,
         ErrorKind::IsADirectory,
     ),
-    // a folder that is not there, and a file in its place
+    // a folder that does not exist, and a file instead of a folder
     (
         "load --deck deck --typed no_folder/typed",
         Unit::Typed,
@@ -424,7 +425,7 @@ fn files_that_fail(rt: HostRuntime) -> Result<(), Fail> {
         assert!(rt; ended.status == Status::HostFault, "{line}");
         assert!(rt; ended.system_error == Some((unit, doing, kind)), "{line}");
     }
-    // what was typed before the report failed; the other outputs were given no byte
+    // the text that was typed before the report failed; the other outputs were given no byte
     assert!(rt; holds(&rt, "typed", b"12345")?);
     for name in ["object", "image", "punched", "report"] {
         assert!(rt; holds(&rt, name, OLD)?, "{name}");

@@ -1,4 +1,4 @@
--- The lines of a run's end, after so many steps.
+-- The lines of a run's end.
 use Rattle.std.specs.Prelude.{ℕ, List, ◌++◌, codes}
 use Rattle.outside_io.specs.declared.host.Unit as unit
 use Rattle.addr_indirect.specs.declared.Stop.{Stop}
@@ -14,7 +14,7 @@ check_number kind = digits_to_width 2 (stop_number kind)
 abbrev pub halt_line : ℕ → ℕ → List ℕ
 halt_line at steps = codes "HALT " ++ at_steps at steps
 
--- the instruction at an address stopped it
+-- the instruction at an address stopped the machine
 abbrev pub check_line : Stop → ℕ → ℕ → List ℕ
 check_line kind at steps = codes "CHECK " ++ check_number kind ++ codes " " ++ at_steps at steps
 
@@ -26,7 +26,7 @@ limit_line steps = codes "LIMIT STEPS " ++ at_count steps
 abbrev pub need_cards_line : ℕ → ℕ → List ℕ
 need_cards_line at steps = codes "NEED CARDS " ++ at_steps at steps
 
--- no line of the keyboard was left for it
+-- no line of the keyboard was left for the instruction at an address
 abbrev pub need_keys_line : ℕ → ℕ → List ℕ
 need_keys_line at steps = codes "NEED KEYS " ++ at_steps at steps
 

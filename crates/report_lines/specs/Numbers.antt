@@ -2,15 +2,15 @@
 use Rattle.std.specs.Prelude.{ℕ, ◌-◌, List, ◌∷◌, ◌++◌, length, replicate, codes, decimal}
 use Rattle.outside_io.specs.Lines.{with_line_feed}
 
--- zeros fill up at the left
+-- at least `width` digits, with zeros at the left
 abbrev pub zero_filled : ℕ → List ℕ → List ℕ
 zero_filled width digits = replicate (width - length digits) 48 ++ digits
 
--- a number in at least so many digits
+-- a number in at least `width` digits, with zeros at the left
 abbrev pub digits_to_width : ℕ → ℕ → List ℕ
 digits_to_width width n = zero_filled width (decimal n)
 
--- a text, a blank, and what follows
+-- a text, a blank, and the rest
 abbrev pub with_blank : List ℕ → List ℕ → List ℕ
 with_blank text rest = text ++ 32 ∷ rest
 

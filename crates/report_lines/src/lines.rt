@@ -1,4 +1,4 @@
-// Whole lines of a text and what stands behind it.
+// Whole lines: a text, with nothing, a count, an address or a unit's name after it.
 // Source: this project's own.
 ghost use Rattle.std.specs.Prelude.{◌≡◌, ◌≤◌, ◌+◌, ◌++◌, length};
 ghost use Rattle.outside_io.specs.Lines.{with_line_feed};

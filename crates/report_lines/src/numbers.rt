@@ -11,7 +11,7 @@ use itoa::Buffer;
 /// Room for the longest line that is built whole, with its LF: 90 bytes.
 pub const LONGEST_LINE: usize = 90;
 
-/// Adds a number in at least so many digits: zeros fill up at the left.
+/// Adds a number in at least `width` digits, with zeros at the left.
 ///
 /// The line has room for ten bytes more, and `width` is at most 10. At most ten bytes are added.
 pub fn push_padded(line: &mut ArrayString<LONGEST_LINE>, width: usize, n: u32)
@@ -24,7 +24,7 @@ pub fn push_padded(line: &mut ArrayString<LONGEST_LINE>, width: usize, n: u32)
     push_filled(line, width, buffer.format(n));
 }
 
-/// Adds a number in at least five digits: zeros fill up at the left.
+/// Adds a number in at least five digits, with zeros at the left.
 ///
 /// The line has room for twenty bytes more. At most twenty bytes are added.
 pub fn push_long(line: &mut ArrayString<LONGEST_LINE>, n: u64)
@@ -36,7 +36,7 @@ pub fn push_long(line: &mut ArrayString<LONGEST_LINE>, n: u64)
     push_filled(line, 5, buffer.format(n));
 }
 
-// Adds a number's digits; zeros fill up at the left.
+// Adds a number's digits, at least `width` of them, with zeros at the left.
 fn push_filled(line: &mut ArrayString<LONGEST_LINE>, width: usize, digits: &str)
     requires zeros { array_string_len line.old + width ≤ LONGEST_LINE }
     requires digits { array_string_len line.old + length digits.now ≤ LONGEST_LINE }

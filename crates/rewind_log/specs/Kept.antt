@@ -1,11 +1,11 @@
--- What is kept of the places of a run.
+-- The kept places of a run.
 use Rattle.std.specs.Prelude.{ℕ, ◌-◌, ◌==◌, List, [], ◌∷◌, ◌++◌, drop, length, slice_get, Option, if◌then◌else◌}
 use Rattle.indicators.specs.declared.Panel.{Panel}
 use Rattle.branch_ops.specs.declared.Regs.{Regs}
 use Rattle.cpu_step.specs.declared.machine.Mode.{Mode}
 use Rattle.cpu_step.specs.declared.machine.Machine.{Machine}
 
--- what is kept of a place: all that is within the machine, and the count of steps made
+-- a kept place: all that is inside the machine, and the count of steps made
 pub record Kept : Type 0 where
   pub core : List ℕ
   pub regs : Regs
@@ -14,7 +14,7 @@ pub record Kept : Type 0 where
   pub mode : Mode
   pub steps : ℕ
 
--- of a machine after so many steps
+-- the kept place of a machine after `steps` steps
 abbrev pub place_of_machine : (m : ℕ) → Machine m → ℕ → Kept
 place_of_machine m machine steps = record {
   core = machine.core;
@@ -34,7 +34,7 @@ machine_at m k machine =
 abbrev pub most_places : ℕ
 most_places = 1001
 
--- one place more: the oldest is dropped where there is no room
+-- the places with one more; the oldest is dropped if there is no room
 abbrev pub places_with : List Kept → Kept → List Kept
 places_with ks k = if length ks == most_places then drop 1 ks ++ k ∷ [] else ks ++ k ∷ []
 

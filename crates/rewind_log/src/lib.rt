@@ -1,6 +1,6 @@
 //! The last places of a run, to which a session may go back.
 //!
-//! A place is what stands within the machine: core, registers, panel, arms and mode, with the count of steps. What stands outside, the cards,
+//! A place is the inside of the machine: core, registers, panel, arms and mode, with the count of steps. The outside, that is the cards,
 //! the keyboard's lines, the texts and the sectors, is not kept and never goes back.
 //!
 //! Source: this project's own.
@@ -25,8 +25,8 @@ use std::vec::Vec;
 /// How many places are kept: the furthest, and a thousand before it.
 pub const PLACES: usize = 1_001;
 
-// A kept place. Its core is that of the place behind it, with the words from number `from` on that are below number `to` as `old` has them;
-// so of `old` only these say something.
+// A kept place. The place before it has the same core, except for the words from number `from` on and below number `to`. `old` holds these
+// words of the place before; all other words of `old` have no meaning.
 #[derive(Drop)]
 struct LogEntry<const M: u32> {
     regs: Regs,
@@ -42,11 +42,11 @@ struct LogEntry<const M: u32> {
 /// The last places of a run, at most 1,001.
 #[derive(Drop)]
 pub struct Rewind<const M: u32> {
-    // The newest comes first.
+    // The newest entry comes first.
     entries: HeapCircularBuffer<LogEntry<M>>,
-    // The core of the newest.
+    // The core of the newest place.
     latest: Core<M>,
-    // Room for the core of each place that may still be kept without dropping one.
+    // Room for the core of each place that can still be kept before a place is dropped.
     spare: Vec<CoreRoom<M>>,
 }
 
@@ -63,10 +63,10 @@ impl<const M: u32> Model for Rewind<M> {
 }
 
 impl<const M: u32> Rewind<M> {
-    /// Room for all places, none of which is kept yet.
+    /// Makes room for all places. No place is kept yet.
     ///
-    /// `M` is 1, 2 or 3. It takes about 16,000,000 bytes for each unit of `M`, which are reserved, and touched as places are kept; no other call
-    /// takes memory. The error is want of memory.
+    /// `M` is 1, 2 or 3. The room takes about 16,000,000 bytes for each unit of `M`. It is reserved here, and touched as places are
+    /// kept; no other call takes memory. The error is want of memory.
     pub fn new(alloc: Global) -> Result<Self, AllocError>
         requires { IsSize M }
         ensures { IfOk result (λ r. r ≡ []) }
@@ -90,7 +90,7 @@ impl<const M: u32> Rewind<M> {
         self.entries.len() as u32
     }
 
-    /// The count of steps of the place number `i`, of which the oldest is number 0.
+    /// The count of steps of place number `i`; the oldest place has number 0.
     ///
     /// `i` is below the number of kept places.
     pub fn count_at(&self, i: u32) -> u64
@@ -100,7 +100,7 @@ impl<const M: u32> Rewind<M> {
         self.entry_at(i).steps
     }
 
-    /// The registers of the place number `i`, of which the oldest is number 0.
+    /// The registers of place number `i`; the oldest place has number 0.
     ///
     /// `i` is below the number of kept places.
     pub fn regs_at(&self, i: u32) -> Regs
@@ -110,7 +110,7 @@ impl<const M: u32> Rewind<M> {
         self.entry_at(i).regs
     }
 
-    /// The mode of the place number `i`, of which the oldest is number 0.
+    /// The mode of place number `i`; the oldest place has number 0.
     ///
     /// `i` is below the number of kept places.
     pub fn mode_at(&self, i: u32) -> Mode
@@ -120,7 +120,7 @@ impl<const M: u32> Rewind<M> {
         self.entry_at(i).mode
     }
 
-    // The entry of the place number `i`.
+    // The entry of place number `i`.
     fn entry_at(&self, i: u32) -> &LogEntry<M>
         requires { i < length self.now }
         ensures { IfSome (slice_get self.now i) (λ k. k ≡ place_of_entry M k.core result.now) }
@@ -131,10 +131,10 @@ impl<const M: u32> Rewind<M> {
         }
     }
 
-    /// Keeps the place where the machine stands after so many steps: its core, registers, panel, arms and mode.
+    /// Keeps the machine's place after `steps` steps: its core, registers, panel, arms and mode.
     ///
-    /// Where 1,001 places were kept, the oldest is dropped; all others stay. Core is compared with that of the place before, and the words
-    /// that differ are copied.
+    /// If 1,001 places were kept, the oldest is dropped; all others stay. Core is compared with the core of the place before. The words
+    /// from the first to the last that differ are copied.
     pub fn keep(&mut self, machine: &Machine<M>, steps: u64)
         ensures { self.new ≡ places_with self.old (place_of_machine M machine.now steps) }
     {
@@ -150,10 +150,10 @@ impl<const M: u32> Rewind<M> {
         );
     }
 
-    /// The same for a machine whose core is that of the newest place but for words from number `from` on that are below number `to`, which
-    /// alone are copied.
+    /// Keeps the machine's place as `keep` does. Its core equals the core of the newest place, except for words from number `from` on
+    /// and below number `to`; only these words are copied.
     ///
-    /// A place is kept. `from` is no more than `to`, and `to` no more than the number of words.
+    /// At least one place is kept already. `from` is no more than `to`, and `to` no more than the number of words.
     pub fn keep_within(&mut self, machine: &Machine<M>, steps: u64, from: u32, to: u32)
         requires some { 0 < length self.old }
         requires order { from ≤ to }
@@ -172,8 +172,8 @@ impl<const M: u32> Rewind<M> {
         );
     }
 
-    /// Brings the machine to the place number `i`, of which the oldest is 0: its core, registers, panel, arms and mode become those of the
-    /// place. Its hopper and its keyboard stay as they are.
+    /// Brings the machine to place number `i`; the oldest place has number 0. The machine gets the core, registers, panel, arms and mode of
+    /// the place. Its hopper and its keyboard stay as they are.
     ///
     /// `i` is below the number of kept places.
     pub fn restore(&self, i: u32, machine: &mut Machine<M>)
@@ -189,7 +189,7 @@ impl<const M: u32> Rewind<M> {
     }
 }
 
-// Puts the words back in which the place before that of entry number `k` differed.
+// Turns the core of the place of entry number `k` into the core of the place before it.
 fn undo<const M: u32>(entries: &HeapCircularBuffer<LogEntry<M>>, k: usize, core: &mut Core<M>)
     requires there { k < length entries.now.items }
     requires within { All (IsEntryWithin M) entries.now.items }
@@ -222,7 +222,7 @@ fn stand_at<const M: u32>(
     }
 }
 
-// A core for one place more: one in room that was spared, or that of the oldest place, which is dropped. What its cells are says nothing.
+// A core for one more place: in spare room, or from the entry of the oldest place, which is dropped. Its cells have no meaning.
 fn core_for_one<const M: u32>(
     entries: &mut HeapCircularBuffer<LogEntry<M>>,
     spare: &mut Vec<CoreRoom<M>>,
@@ -244,7 +244,7 @@ fn core_for_one<const M: u32>(
     }
 }
 
-// Keeps one place more, whose core is that of the newest but for some words.
+// Keeps one more place. Its core equals the core of the newest place, except for words from number `from` on and below number `to`.
 fn push<const M: u32>(
     entries: &mut HeapCircularBuffer<LogEntry<M>>,
     latest: &mut Core<M>,

@@ -1,4 +1,4 @@
-//! Tests of the debugger: sessions over small programs, and texts that are no commands.
+//! Tests of the debugger: commands as they are read, sessions over small programs, and texts that are not commands.
 #![tactic(auto)]
 
 #[cfg(test)]

@@ -1,4 +1,4 @@
-//! Commands as they are read, line by line. The values are those of the grammar.
+//! Commands as they are read, line by line. The grammar gives the expected values.
 
 use console_debug::{Commands, DebugCommand};
 use std::alloc::Global;
@@ -6,7 +6,7 @@ use std::alloc::Global;
 // The positions of the least core.
 const POSITIONS: u32 = 20_000;
 
-// Whether the text is read as these commands, for a core of so many positions, and no breakpoint is set.
+// Whether the text is read as these commands, for a core of `positions` positions, and no breakpoint is set.
 fn reads(alloc: Global, text: &[u8], positions: u32, want: &[DebugCommand]) -> bool {
     match Commands::read(alloc, text, positions) {
         Ok(commands) => commands.list() == want && commands.breakpoints().is_empty(),

@@ -1,4 +1,4 @@
-//! Texts that are no commands. The lines are those of the grammar.
+//! Texts that are not commands. The grammar gives the expected line numbers.
 
 use console_debug::{CommandFault, Commands};
 use std::alloc::AllocError;
@@ -129,7 +129,7 @@ fn the_first_bad_line_is_told_and_all_lines_count(rt: HostRuntime) {
         // the first of two
         (b"FOO\nBAR\n", 1),
         (b"GO\nSTEP\nSHOW 0\n", 2),
-        // a line behind QUIT is read too
+        // a line after QUIT is read too
         (b"QUIT\nFOO\n", 2),
         // of two CRs only one is dropped, and one within a line stays
         (b"GO\r\r\n", 1),

@@ -1,4 +1,4 @@
-//! Sessions over small programs. The lines are those of the definitions, by hand.
+//! Sessions over small programs. The expected lines were worked out from the definitions by hand.
 
 ghost use Rattle.std.specs.Prelude.{◌≡◌, false, IfOk};
 ghost use Rattle.cpu_step.specs.Machine.{is_faulted};
@@ -76,14 +76,14 @@ const ROWS: [Row; 15] = [
         limit: 100,
         printed: b"NO STATEMENT 1\nBREAK 00004 00426 STEPS 2\nHALT 00426 STEPS 3\nHALT 00426 STEPS 3\nHALT 00426 STEPS 3\n",
     },
-    // a breakpoint stays set, and counts only where a step leads to it
+    // a breakpoint stays set, and counts only if a step leads to it
     Row {
         commands: b"BREAK 2\nBREAK 3\nBREAK 4\nGO\nGO\nGO\n",
         script: b"",
         limit: 100,
         printed: b"BREAK 00003 00414 STEPS 1\nBREAK 00004 00426 STEPS 2\nHALT 00426 STEPS 3\n",
     },
-    // it is cleared wherever it was set
+    // one CLEAR clears a breakpoint that was set twice
     Row {
         commands: b"BREAK 4\nBREAK 3\nBREAK 4\nCLEAR 4\nGO\nGO\n",
         script: b"",
@@ -97,14 +97,14 @@ const ROWS: [Row; 15] = [
         limit: 100,
         printed: b"NO STATEMENT 1\nNO STATEMENT 0\nNO STATEMENT 6\nNO STATEMENT 7\nNO STATEMENT 999999999999999\n",
     },
-    // the operator's START is no step
+    // the operator's START is not a step
     Row {
         commands: b"STEP 9\n",
         script: b"HALT START\n",
         limit: 100,
         printed: b"AT 00402 STEPS 0\nAT 00414 STEPS 1\nAT 00426 STEPS 2\nAT 00438 STEPS 3\nHALT 00438 STEPS 4\n",
     },
-    // neither is a bit that the operator turns round; a cell of even parity is shown as such, and
+    // the operator's FLIP is not a step; a cell of even parity is shown as `?`, and
     // stops the machine
     Row {
         commands: b"STEP 1\nSHOW 700 1\nGO\n",
@@ -118,14 +118,14 @@ const ROWS: [Row; 15] = [
         limit: 1,
         printed: b"LIMIT STEPS 1\nLIMIT STEPS 1\n",
     },
-    // cells before and behind a part of the program
+    // cells before and after a part of the program was executed
     Row {
         commands: b"SHOW 598 4\nGO\nSHOW 598 5\nSHOW 00000 1\n",
         script: b"",
         limit: 100,
         printed: b"00598 0?00\nHALT 00426 STEPS 3\n00598 0?560\n00000 0\n",
     },
-    // back as far as there are places; core goes back with it, and GO comes to the end again
+    // BACK as far as there are places; core goes back too, and GO gets to the end again
     Row {
         commands: b"BACK 1\nSTEP 2\nBACK 1\nSHOW 600 2\nBACK 2\nBACK 1\nGO\nSHOW 600 2\nBACK 3\n",
         script: b"",
@@ -139,7 +139,7 @@ const ROWS: [Row; 15] = [
         limit: 100,
         printed: b"HALT 00426 STEPS 3\nAT 00402 STEPS 0\nBREAK 00003 00414 STEPS 1\nHALT 00426 STEPS 3\n",
     },
-    // the operator's START is a place of its own, and is no step behind a BACK either; it acts once
+    // the operator's START leads to a place of its own, and is not a step after a BACK either; it acts once
     Row {
         commands: b"GO\nBACK 2\nSTEP 1\nBACK 1\nSTEP 2\n",
         script: b"HALT START\n",

@@ -1,10 +1,10 @@
--- Expressions: their trees, which trees are expressions, and what these are written as.
+-- Expressions: their trees, which trees are expressions, and their texts.
 -- Source: SPS manual, address adjustment and HEAD; the grammar is this project's own.
 use Rattle.std.specs.Prelude.{ℕ, ◌≡◌, Bool, true, false, not, ◌&&◌, ◌||◌, List, [], ◌∷◌, ◌++◌, length, Option, Some, None, nat_le, if◌then◌else◌}
 use Rattle.std.specs.List.{list_all}
 use Rattle.std.specs.Char.{is_ascii_digit}
 
--- the location, a number in its digits, a name, or a name behind a `$` and, before that, its head, if it has one
+-- the location, a number in its digits, a name, or a name after a `$` with or without a head before the `$`
 pub data Factor : Type 0 where
   Here : Factor
   Numeral : (digits : List ℕ) → Factor
@@ -44,7 +44,7 @@ is_nothing (x ∷ xs) = false
 abbrev pub is_word : List ℕ → Bool
 is_word word = not (is_nothing word) && list_all is_letter_or_digit word
 
--- a word that is no number
+-- a word that is not a number
 abbrev pub is_name : List ℕ → Bool
 is_name word = is_word word && not (list_all is_ascii_digit word)
 
@@ -53,7 +53,7 @@ abbrev pub is_head_char : Option ℕ → Bool
 is_head_char None = true
 is_head_char (Some h) = is_letter_or_digit h
 
--- a number is a word of digits; a name is any other word, of at most six characters, and of at most five behind a `$`
+-- a number is a word of digits; a name is any other word, of at most six characters, or of at most five after a `$`
 abbrev pub is_factor : Factor → Bool
 is_factor Here = true
 is_factor (Numeral digits) = is_word digits && list_all is_ascii_digit digits
@@ -68,24 +68,24 @@ is_term t = is_factor t.first && list_all is_factor t.more
 abbrev pub is_expr : Expr → Bool
 is_expr e = is_term e.first && list_all (λ s. is_term s.term) e.more
 
--- a name behind its `$`
+-- a name after a `$`, with or without a head before the `$`
 abbrev pub headed_text : Option ℕ → List ℕ → List ℕ
 headed_text None name = 36 ∷ name
 headed_text (Some h) name = h ∷ 36 ∷ name
 
--- a factor as it is written; the location is `*`
+-- the text of a factor; the location is `*`
 abbrev pub factor_text : Factor → List ℕ
 factor_text Here = 42 ∷ []
 factor_text (Numeral digits) = digits
 factor_text (Name name) = name
 factor_text (Headed head name) = headed_text head name
 
--- factors as they are written, each behind its `*`
+-- the text of factors, each with a `*` before it
 abbrev pub factors_text : List Factor → List ℕ
 factors_text [] = []
 factors_text (f ∷ fs) = 42 ∷ (factor_text f ++ factors_text fs)
 
--- a term as it is written
+-- the text of a term
 abbrev pub term_text : Term → List ℕ
 term_text t = factor_text t.first ++ factors_text t.more
 
@@ -93,25 +93,25 @@ term_text t = factor_text t.first ++ factors_text t.more
 abbrev pub sign_byte : Bool → ℕ
 sign_byte minus = if minus then 45 else 43
 
--- terms as they are written, each behind its sign
+-- the text of terms, each with its sign before it
 abbrev pub terms_text : List Signed → List ℕ
 terms_text [] = []
 terms_text (s ∷ ss) = sign_byte s.minus ∷ (term_text s.term ++ terms_text ss)
 
--- the sign at the front as it is written, if there is one
+-- the text of the leading sign, or nothing without a sign
 abbrev pub sign_text : Option Bool → List ℕ
 sign_text None = []
 sign_text (Some minus) = sign_byte minus ∷ []
 
--- an expression as it is written
+-- the text of an expression
 abbrev pub expr_text : Expr → List ℕ
 expr_text e = sign_text e.sign ++ (term_text e.first ++ terms_text e.more)
 
--- the tree is an expression, and this is what it is written as
+-- the tree is an expression, and this is its text
 pub record IsReading (text : List ℕ) (e : Expr) : Type 0 where
   pub good : is_expr e ≡ true
   pub spelled : expr_text e ≡ text
 
--- no expression is written as the text
+-- no expression has this text
 abbrev pub HasNoReading : List ℕ → Type 0
 HasNoReading text = (e : Expr) → ¬ IsReading text e

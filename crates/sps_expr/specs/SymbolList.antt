@@ -21,7 +21,7 @@ entries_of_symbols (s ∷ ss) = entry_of s ∷ entries_of_symbols ss
 abbrev pub AreBytes : List ℕ → Type 0
 AreBytes name = (k : ℕ) → slice_index name k < 256
 
--- seven bytes of a name, zeros where it has fewer, and how many it has
+-- the first seven bytes of a name, zeros after its end, and its length
 abbrev pub key_bytes : List ℕ → List ℕ
 key_bytes name =
     slice_index name 0 ∷ slice_index name 1 ∷ slice_index name 2 ∷ slice_index name 3
@@ -31,7 +31,7 @@ key_bytes name =
 abbrev pub short_key : List ℕ → ℕ
 short_key name = from_be_bytes w64 (key_bytes name)
 
--- the place that maps have at a name: names are in the order of their bytes, those of at most seven bytes by their numbers
+-- the place of a name in the maps: a name of at most seven bytes by its number, a longer name by the order of its bytes
 unfoldable pub place_in_maps : PlacesByName → List ℕ → Option ℕ
 place_in_maps places name =
     if nat_le (length name) 7 then get_by (nat_cmp (short_key name)) places.short
@@ -41,15 +41,15 @@ place_in_maps places name =
 abbrev pub HasNoPlace : PlacesByName → Type 0
 HasNoPlace places = (name : List ℕ) → place_in_maps places name ≡ None
 
--- each name has the place that it had
+-- each name keeps its place
 abbrev pub HasPlacesAsIn : PlacesByName → PlacesByName → Type 0
 HasPlacesAsIn old new = (name : List ℕ) → place_in_maps new name ≡ place_in_maps old name
 
--- one name has a place, and each other name the one that it had
+-- one name has this place, and each other name keeps its place
 abbrev pub HasPlaceMore : PlacesByName → PlacesByName → List ℕ → ℕ → Type 0
 HasPlaceMore old new added place =
     (name : List ℕ) → AreBytes name → place_in_maps new name ≡ (if bytes_eq name added then Some place else place_in_maps old name)
 
--- the maps have the place of each entry at its name, and no other name
+-- the maps have the place of each entry by its name, and no other name
 abbrev pub HasPlacesOf : PlacesByName → List SymbolEntry → Type 0
 HasPlacesOf places entries = (name : List ℕ) → AreBytes name → place_in_maps places name ≡ place_of_name name entries

@@ -10,7 +10,7 @@ use Rattle.sps_expr.specs.Reading.{reading, without_blanks}
 use Rattle.sps_expr.specs.Symbol.{SymbolEntry, find, with_head, symbol_of}
 use Rattle.sps_expr.specs.declared.scope.Scope.{Scope as GivenScope}
 
--- what names and `*` stand for, and the statement before which names must have been defined
+-- the meaning of names and of `*`, and the statement before which names must have been defined
 pub record Scope : Type 0 where
   pub head : Option ℕ
   pub symbols : List SymbolEntry
@@ -26,7 +26,7 @@ abbrev pub scope_now : GivenScope → Scope
 scope_now scope = scope_of scope.head scope.symbols.now scope.here scope.before
 
 infixl 10 ◌>>=◌
--- the next step, where there was no value too large
+-- the next step, if no value was too large
 abbrev pub ◌>>=◌ : {A B : Type 0} → Option A → (A → Option B) → Option B
 (Some x) >>= f = f x
 None >>= f = None
@@ -35,21 +35,21 @@ None >>= f = None
 abbrev pub in_range : ℤ → Bool
 in_range v = int_le (negsuc 9999999998) v && int_le v (pos 9999999999)
 
--- the number, where it is in range
+-- the number if it is in range, else None
 abbrev pub number_in_range : ℤ → Option ℤ
 number_in_range v = if in_range v then Some v else None
 
--- what is found as a number; nothing is 0
+-- the value of the entry that was found, or 0 without an entry
 abbrev pub symbol_value : Option (ℤ × ℕ) → ℤ
 symbol_value None = pos 0
 symbol_value (Some s) = s.0
 
--- a symbol of this statement is not one of an earlier statement, where it has to be
+-- a symbol of this statement is late: the statement does not come before the statement `before`
 abbrev pub is_late : Option ℕ → ℕ → Bool
 is_late None statement = false
 is_late (Some before) statement = nat_le before statement
 
--- what is found is late
+-- the entry that was found is late
 abbrev pub is_found_late : Option ℕ → Option (ℤ × ℕ) → Bool
 is_found_late before None = false
 is_found_late before (Some s) = is_late before s.1
@@ -116,12 +116,12 @@ any_in_term test t = test t.first || list_any test t.more
 abbrev pub any_factor : (Factor → Bool) → Expr → Bool
 any_factor test e = any_in_term test e.first || list_any (λ s. any_in_term test s.term) e.more
 
--- the value, or that it is too large
+-- the value, or rule 10 if it is too large
 abbrev pub or_too_large : Option ℤ → Result ℤ Rule
 or_too_large None = Err ValueTooLarge
 or_too_large (Some v) = Ok v
 
--- an undefined name counts before a late one, and both before a value that is too large
+-- an undefined name counts before a late name, and both before a value that is too large
 abbrev pub value_answer : Bool → Bool → Option ℤ → Result ℤ Rule
 value_answer undefined late v = if undefined then Err UndefinedSymbol else if late then Err LateSymbol else or_too_large v
 
@@ -129,12 +129,12 @@ value_answer undefined late v = if undefined then Err UndefinedSymbol else if la
 abbrev pub outcome : Scope → Expr → Result ℤ Rule
 outcome scope e = value_answer (any_factor (is_undefined scope) e) (any_factor (comes_late scope) e) (expr_value scope e)
 
--- the same of a tree that may not be there
+-- the outcome of a tree, or rule 7 if there is no tree
 abbrev pub tree_outcome : Scope → Option Expr → Result ℤ Rule
 tree_outcome scope None = Err BadExpression
 tree_outcome scope (Some e) = outcome scope e
 
--- the result is the outcome of each tree that is written as the part
+-- the result is the outcome of each tree whose text is the part
 abbrev pub IsOutcomeOf : Scope → List ℕ → Result ℤ Rule → Type 0
 IsOutcomeOf scope part result = (e : Expr) → IsReading (without_blanks part) e → result ≡ outcome scope e
 

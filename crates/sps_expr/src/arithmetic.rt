@@ -1,4 +1,4 @@
-// Whole numbers of at most ten digits. None stands for one that was too large, and stays.
+// Whole numbers of at most ten digits. `None` is a number that was too large; any sum or product with it is `None` too.
 ghost use Rattle.std.specs.Prelude.{◌≡◌};
 ghost use Rattle.sps_expr.specs.Value.{in_range, number_in_range};
 ghost use Rattle.sps_expr.specs.Steps.{times, plus};

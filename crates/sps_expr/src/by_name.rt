@@ -5,17 +5,17 @@ ghost use Rattle.sps_expr.specs.SymbolList.{short_key, place_in_maps, HasNoPlace
 use std::alloc::{AllocError, Global};
 use std::collections::BTreeMap;
 
-// How many bytes a name has at most that stands in the map as a number: as many as a head, a `$` and five characters have.
+// The greatest length of a name that the map holds as a number: a head, a `$` and five characters.
 const SHORT_KEY: usize = 7;
 
-// A byte of a name, and 0 behind its end.
+// A byte of a name, or 0 after its end.
 fn byte_at(name: &[u8], i: usize) -> u8
     ensures { result ≡ slice_index name.now i }
 {
     if i < name.len() { name[i] } else { 0 }
 }
 
-// A name of at most seven bytes as a number. Such numbers are in the order of the names' bytes.
+// A name of at most seven bytes as a number. The numbers have the order of the names' bytes.
 fn short_key(name: &[u8]) -> u64
     requires { length name.now ≤ 7 }
     ensures { result ≡ short_key name.now }
@@ -32,8 +32,8 @@ fn short_key(name: &[u8]) -> u64
     ])
 }
 
-// Maps from names to their places, in the order of the names' bytes: one for short names, whose numbers are compared at once, and one for
-// longer names.
+// Maps from names to their places, in the order of the names' bytes: one for short names, which compares each name as one number,
+// and one for longer names.
 #[derive(Drop)]
 pub(crate) struct PlacesByName {
     short: BTreeMap<u64, usize>,
@@ -61,7 +61,7 @@ impl PlacesByName {
         }
     }
 
-    // Gives a name its place. After the error all names have the places that they had.
+    // Gives a name its place. After an error all names keep their places.
     pub(crate) fn add(&mut self, alloc: Global, name: &[u8], place: usize) -> Result<(), AllocError>
         ensures ok { OnOk result (HasPlaceMore self.old self.new name.now place) }
         ensures err { OnErr result (HasPlacesAsIn self.old self.new) }

@@ -13,7 +13,7 @@ use crate::symbols::Symbols;
 use crate::word::{Word, is_name, is_run_byte};
 use sps_ops::Rule;
 
-// What a factor comes to: its value, where it is not too large, and what is wrong with its name.
+// The result of a factor: whether its name is undefined or late, and its value, or `None` if the value is too large.
 #[derive(Clone, Copy)]
 struct FactorResult {
     undefined: bool,
@@ -21,7 +21,7 @@ struct FactorResult {
     value: Option<i64>,
 }
 
-// What the text so far comes to: the sum of its terms but the last, the sign of the last, and the product of the last one's factors.
+// The result of the text so far: the sum of all terms except the last, and the last term's sign and its product so far.
 #[derive(Clone, Copy)]
 struct PartialResult {
     undefined: bool,
@@ -32,7 +32,7 @@ struct PartialResult {
 }
 
 impl PartialResult {
-    // With a factor more, behind its mark.
+    // The result after one more factor and the operator before it.
     fn with_factor(self, mark: u8, factor: FactorResult) -> PartialResult
         requires { is_operator mark ≡ true }
         ensures { result ≡ with_factor mark factor self }
@@ -58,7 +58,7 @@ impl PartialResult {
         }
     }
 
-    // The value, where nothing more follows, or the least rule.
+    // The value if no factor follows, or the least rule that the text breaks.
     fn answer_so_far(self) -> Result<i64, Rule>
         ensures { result ≡ answer_so_far self }
     {
@@ -81,7 +81,7 @@ fn is_operator(b: u8) -> bool
     b == b'*' || b == b'+' || b == b'-'
 }
 
-// The text from its first byte on that is no blank.
+// The text without the blanks at its front.
 fn skip_blanks(text: &[u8]) -> &[u8]
     ensures same { without_blanks result.now ≡ without_blanks text.now }
     ensures shorter { length result.now ≤ length text.now }
@@ -97,7 +97,7 @@ fn skip_blanks(text: &[u8]) -> &[u8]
     rest
 }
 
-// The run of letters, digits and `$` at the front, blanks removed, and the text behind it.
+// The run of letters, digits and `$` at the front, without its blanks, and the text after it.
 fn front_word(text: &[u8]) -> (Word, &[u8])
     ensures word { IsWord result.0 (run (without_blanks text.now)) }
     ensures rest { without_blanks result.1.now ≡ past_run (without_blanks text.now) }
@@ -117,7 +117,7 @@ fn front_word(text: &[u8]) -> (Word, &[u8])
     (word, rest)
 }
 
-// What is found at a name without a `$`, where it is one and not too long.
+// The entry of a name without a `$`; the outer `None` is for a text that is not a name or is too long.
 fn find_plain(name: &[u8], scope: &Scope<'_>) -> Option<Option<(i64, u32)>>
     ensures { result ≡ symbol_at (scope_now scope.now) (plain_name name.now) }
 {
@@ -128,7 +128,7 @@ fn find_plain(name: &[u8], scope: &Scope<'_>) -> Option<Option<(i64, u32)>>
     }
 }
 
-// What is found at a name behind a `$`, where it is one and not too long; `symbol` is the symbol that it then stands for.
+// The entry of a name after a `$`, likewise; `symbol` is its symbol.
 fn find_headed(
     own: Option<u8>,
     name: &[u8],
@@ -145,7 +145,7 @@ fn find_headed(
     }
 }
 
-// What is found at the name that a run is, where it is one.
+// The entry of a run that is a name, or `None` if it is not a name.
 fn find_word(word: &[u8], scope: &Scope<'_>) -> Option<Option<(i64, u32)>>
     ensures { result ≡ symbol_at (scope_now scope.now) (name_factor word.now) }
 {
@@ -164,7 +164,7 @@ fn find_word(word: &[u8], scope: &Scope<'_>) -> Option<Option<(i64, u32)>>
     find_plain(word, scope)
 }
 
-// What a run of letters, digits and `$` comes to, where it is a number or a name.
+// The result of a run of letters, digits and `$`, or `None` if it is not a number or a name.
 fn word_result(word: &Word, scope: &Scope<'_>) -> Option<FactorResult>
     ensures { IsWordResult (scope_now scope.now) word.now result }
 {
@@ -192,7 +192,7 @@ fn word_result(word: &Word, scope: &Scope<'_>) -> Option<FactorResult>
     }
 }
 
-// Whether the symbol of a statement comes too late for the statement `before`.
+// Whether a symbol of this statement is late: the statement does not come before the statement `before`.
 fn is_late(before: Option<u32>, statement: u32) -> bool
     ensures { result ≡ is_late before statement }
 {
@@ -202,7 +202,7 @@ fn is_late(before: Option<u32>, statement: u32) -> bool
     }
 }
 
-// What the factor at the front of the text comes to, and the text behind it.
+// The result of the factor at the front of the text, and the text after it.
 fn factor<'a>(text: &'a [u8], scope: &Scope<'_>) -> Option<(FactorResult, &'a [u8])>
     ensures some { TakesWhatIsFound (scope_now scope.now) text.now result }
     ensures none { IfNone result (first_factor (tokens (without_blanks text.now)) ≡ None) }
@@ -227,7 +227,7 @@ fn factor<'a>(text: &'a [u8], scope: &Scope<'_>) -> Option<(FactorResult, &'a [u
     Some((found, rest))
 }
 
-// Whether a minus stands at the front, and the text behind the sign, if there is one.
+// Whether the text begins with a minus, and the text after its leading sign, or the text itself if it has no sign.
 fn leading_sign(text: &[u8]) -> (bool, &[u8])
     ensures { LeadingSign text.now result.0 result.1.now }
 {
@@ -244,7 +244,7 @@ fn leading_sign(text: &[u8]) -> (bool, &[u8])
     }
 }
 
-// The value of an expression whose sign stands before this text, or the least rule that it breaks.
+// The value of an expression without its leading sign, or the least rule that it breaks; `minus` is the sign.
 fn outcome_behind_sign(minus: bool, text: &[u8], scope: &Scope<'_>) -> Result<i64, Rule>
     ensures { result ≡ outcome_behind_sign (scope_now scope.now) minus text.now }
 {
@@ -274,23 +274,24 @@ fn outcome_behind_sign(minus: bool, text: &[u8], scope: &Scope<'_>) -> Result<i6
 
 /// The value of a part of a statement, read as an expression, or the least of these rules that the part breaks.
 ///
-/// Blanks are removed first. An expression is `[+ or -] term { (+ or -) term }`, a term is `factor { * factor }`, and a factor is a
-/// number, a name of at most six letters and digits with a letter among them, a name of at most five behind a `$` and, in front of that,
-/// a letter or digit as its head or nothing, or `*` for the location `here`. The value is worked out in whole numbers: products first,
-/// each from the left, then sums, each from the left.
+/// Blanks are removed first. An expression is `[+ or -] term { (+ or -) term }`, a term is `factor { * factor }`, and a factor is
+/// a number, a name, a `$` and a name of at most five characters with or without a head before the `$`, or `*` for the location
+/// `here`. A name has at most six letters and digits with a letter among them, and a head is a letter or digit. The value is
+/// computed in whole numbers: products first, then sums, each from the left.
 ///
-/// A name of one to five characters without a `$` stands for the symbol with `head`, the head in force, and one of six for the symbol
-/// without a head. A name behind a `$` stands for the symbol with the head that is written there, or without one.
+/// A name of one to five characters without a `$` refers to the symbol with `head`, the head in force. A name of six refers to
+/// the symbol without a head. A name after a `$` refers to the symbol with the head before the `$`, or without a head if there is
+/// no head.
 ///
-/// - `BadExpression`: the part is no expression.
+/// - `BadExpression`: the part is not an expression.
 /// - `UndefinedSymbol`: a name is not among the symbols.
-/// - `LateSymbol`, only where a statement `before` is given: a name's statement is that one or a later one.
-/// - `ValueTooLarge`: a number, a symbol's value, `here` where it is used, a product, the first term with its sign, or a sum is over
-///   9,999,999,999 in magnitude.
+/// - `LateSymbol`, only if `before` is given: a name is defined by the statement `before` or a later statement.
+/// - `ValueTooLarge`: a number, a symbol's value, `here` if the part uses it, a product, the first term with its sign, or a sum
+///   is over 9,999,999,999 in magnitude.
 ///
-/// The location and the values of the symbols may be any numbers. `IsReading` says which text a tree is written as. A text has one tree at
-/// most, and `reading` finds it: the lemmas `reading_is`, `is_reading` and `one_reading` of `proofs/Trees`. Where only the symbols of
-/// earlier statements are known and `before` is not given, a late symbol is an undefined one, and all else is the same: the lemma
+/// The location and the values of the symbols may be any numbers. `IsReading` relates a tree to its text. A text has one tree at
+/// most, and `reading` finds it: the lemmas `reading_is`, `is_reading` and `one_reading` of `proofs/Trees`. With only the symbols
+/// of earlier statements and without `before`, a late symbol is an undefined symbol, and everything else is equal: the lemma
 /// `early_value` of `proofs/EarlierSymbols`.
 /// Source: SPS manual, address adjustment; the grammar and the bound are this project's own.
 pub fn value(
@@ -302,7 +303,7 @@ pub fn value(
 ) -> Result<i64, Rule>
     ensures is { result ≡ value_of (scope_of head symbols.now here before) part.now }
 
-    // By the grammar alone: the outcome of the tree that is written as the part, and the first rule where there is none.
+    // By the grammar alone: the outcome of the part's tree, and `BadExpression` if there is no tree.
     ensures grammar { IsOutcomeOf (scope_of head symbols.now here before) part.now result }
     ensures outside { HasNoReading (without_blanks part.now) → result ≡ Err BadExpression }
 {
@@ -316,7 +317,7 @@ pub fn value(
 }
 
 impl Scope<'_> {
-    /// The value of a part of a statement in this scope, or the least rule that it breaks, as [`value`] says.
+    /// The value of a part of a statement in this scope, or the least rule that it breaks, as [`value`] gives it.
     ///
     /// Source: SPS manual, address adjustment; the grammar and the bound are this project's own.
     pub fn value(&self, part: &[u8]) -> Result<i64, Rule>

@@ -1,8 +1,8 @@
 //! Symbols and expressions of the assembler.
 //!
-//! An expression is numbers, names, which may have a head, and the location `*`, joined by `+`, `-` and `*`. `Symbols` is the list of the names that
-//! statements have defined, and `value` works a part of a statement out, or says which rule the part breaks. `Scope` is what it is worked
-//! out in, in one piece.
+//! An expression is numbers, names, which may have a head, and the location `*`, joined by `+`, `-` and `*`. `Symbols` is the
+//! list of the symbols that statements have defined. `value` evaluates a part of a statement as an expression, or gives the rule
+//! that the part breaks. `Scope` holds all that the value depends on, except the part itself.
 #![tactic(auto)]
 
 mod arithmetic;

@@ -7,7 +7,7 @@ use arrayvec::ArrayVec;
 use std::alloc::{AllocError, Global};
 use std::marker::Model;
 
-// How many characters a name has at most that may have a head.
+// The greatest number of characters of a name that may have a head.
 const SHORT_NAME: usize = 5;
 
 // The symbol of a head and a name, as it is spelled.
@@ -24,7 +24,7 @@ fn headed(h: u8, name: &[u8]) -> ArrayVec<u8, 7>
     symbol
 }
 
-// Its name stands in the map too, so that the list alone says what the symbols are.
+// The map has the name too; it is kept here so that the list alone gives the symbols.
 #[derive(Drop)]
 struct Symbol {
     name: Vec<u8>,
@@ -33,12 +33,11 @@ struct Symbol {
 }
 
 /// The names that statements have defined, in the order in which they were added, each with its value and its statement. No name
-/// stands twice.
+/// occurs twice.
 ///
-/// Beside the list stands a map from each name to its place there, in the order of the names' bytes.
-/// It never disagrees with the list: it has each name's place, and no other name. So a look-up and a
-/// definition take a few more steps each time that there are twice as many names, whatever the names
-/// are.
+/// A map next to the list gives each name's place in the list, in the order of the names' bytes. It
+/// always agrees with the list: it has each name's place, and no other name. So a look-up and a
+/// definition take only a few more steps if there are twice as many names, whatever the names are.
 ///
 /// Contracts see the list of the entries.
 /// Source: SPS manual, labels; that the first definition of a name counts is this project's own.
@@ -76,10 +75,10 @@ impl Symbols {
         }
     }
 
-    /// The value and the statement of a name, or `None` exactly where the name is not there. A name is a symbol as it is spelled, `h$name` or
-    /// `name`.
+    /// The value and the statement of a name, or `None` if the symbols don't have the name. A name is a symbol as it is spelled,
+    /// `h$name` or `name`.
     ///
-    /// It takes no memory, and a few more steps each time that there are twice as many names.
+    /// It takes no memory, and only a few more steps if there are twice as many names.
     /// Source: this project's own.
     pub fn find(&self, name: &[u8]) -> Option<(i64, u32)>
         ensures is { result ≡ find name.now self.now }
@@ -88,7 +87,7 @@ impl Symbols {
         ensures there { HasEntryOf self.now name.now result }
         ensures only { EachEntryHas self.now name.now result }
 
-        // What the type keeps.
+        // The invariant of the type.
         ensures once { has_no_name_twice self.now ≡ true }
     {
         let place = self.places.place(name)?;
@@ -96,10 +95,10 @@ impl Symbols {
         Some((symbol.value, symbol.statement))
     }
 
-    /// The value and the statement of the symbol that a name without a `$` stands for, or `None` exactly where that is not there.
+    /// The value and the statement of the symbol to which a name without a `$` refers, or `None` if there is no such symbol.
     ///
-    /// `head` is the head in force. A name of one to five characters stands for the symbol with that head, and a longer one for the
-    /// symbol without a head. It takes no memory.
+    /// `head` is the head in force. A name of one to five characters refers to the symbol with that head, and a longer name to
+    /// the symbol without a head. It takes no memory.
     /// Source: this project's own.
     pub fn find_under(&self, head: Option<u8>, name: &[u8]) -> Option<(i64, u32)>
         ensures { result ≡ find (symbol_of head name.now) self.now }
@@ -116,10 +115,10 @@ impl Symbols {
         }
     }
 
-    /// Adds the symbol that a label stands for, with its value and its statement, as [`define`](Symbols::define) does.
+    /// Adds the symbol to which a label refers, with its value and its statement, as [`define`](Symbols::define) does.
     ///
-    /// `head` is the head in force. A label of one to five characters stands for the symbol with that head, and a longer one for the
-    /// symbol without a head.
+    /// `head` is the head in force. A label of one to five characters refers to the symbol with that head, and a longer label to
+    /// the symbol without a head.
     /// Source: this project's own.
     pub fn define_under(
         &mut self,
@@ -147,9 +146,9 @@ impl Symbols {
         }
     }
 
-    /// Adds a name with its value and its statement behind the others and answers true, or answers false where the name is there.
+    /// Adds a name with its value and its statement after the others and answers true, or answers false if the name exists.
     ///
-    /// After false, and after the error, which is want of memory for a new name, all symbols are as before.
+    /// The error is a lack of memory for a new name. After false, and after the error, all symbols are as before.
     /// Source: SPS manual, labels; that the first definition of a name counts is this project's own.
     pub fn define(
         &mut self,
@@ -167,7 +166,7 @@ impl Symbols {
         if self.places.place(name).is_some() {
             return Ok(false);
         }
-        // What may want memory comes before the first change.
+        // All steps that may lack memory come before the first visible change.
         let owned = Vec::from_slice(alloc, name)?;
         self.entries.reserve(1)?;
         self.places.add(alloc, name, self.entries.len())?;

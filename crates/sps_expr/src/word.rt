@@ -8,8 +8,8 @@ ghost use Rattle.sps_expr.specs.Reading.{is_run_byte};
 
 use arrayvec::ArrayVec;
 
-// What is kept of the run: `number` is right where all are digits, and stops at 10,000,000,000. `text` is the whole run where that is not
-// `long`, that is over seven characters: a head, a `$` and a name of five.
+// A run as a number and as a text. `number` is valid if all characters are digits, and stops at 10,000,000,000. `text` is the
+// first seven characters, enough for a head, a `$` and a name of five; `long` says whether there are more.
 #[derive(Drop)]
 pub(crate) struct Word {
     pub all_digits: bool,
@@ -72,7 +72,7 @@ pub(crate) fn is_run_byte(b: u8) -> bool
 
 /// Whether a text is a name: letters and digits with a letter among them.
 ///
-/// Letters are `A` to `Z`. How long it is isn't looked at.
+/// Letters are `A` to `Z`. The function doesn't check the length.
 /// Source: SPS manual, labels; which characters a name may have is this project's own.
 pub fn is_name(text: &[u8]) -> bool
     ensures { result ≡ is_name text.now }

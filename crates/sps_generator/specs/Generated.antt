@@ -41,7 +41,7 @@ mnemonic_of AddImmediate = codes "AM"
 mnemonic_of SubtractImmediate = codes "SM"
 mnemonic_of CompareImmediate = codes "CM"
 
--- the first statement is where the program starts; the others have no label
+-- the first statement has the label of the program's start; the others have no label
 abbrev pub label_of : ℕ → List ℕ
 label_of i = if i == 1 then codes "START" else []
 
@@ -59,11 +59,11 @@ statement_line number i = line_of_draw i (draw_at number i)
 
 -- The deck.
 
--- the generated lines, so many from the first on
+-- the first `count` generated lines
 abbrev pub statement_lines : ℕ → ℕ → List (List ℕ)
 statement_lines number count = map (statement_line number) (range_with_len 1 count)
 
--- the lines behind them: the sum is typed, the machine halts, and the sum is declared
+-- the lines after the generated ones: they type the sum, halt, and declare the sum, the record mark and the start
 abbrev pub closing_lines : List (List ℕ)
 closing_lines =
     line [] (codes "CF") (codes "SUM-9") ∷
@@ -74,6 +74,6 @@ closing_lines =
     line [] (codes "DSC") (codes "1,@") ∷
     line [] (codes "DEND") (codes "START") ∷ []
 
--- THE SOURCE DECK of so many statements by a number
+-- THE SOURCE DECK of `statements` statements by a number
 abbrev pub source_deck : ℕ → ℕ → List ℕ
 source_deck statements number = flat_map with_line_feed (statement_lines number (statements - 7) ++ closing_lines)

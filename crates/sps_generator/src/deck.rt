@@ -7,13 +7,13 @@ use crate::lines::push_line;
 use crate::operations::operation_of_draw;
 use std::alloc::{AllocError, Global};
 
-/// The source deck of so many statements by a number: the same deck for the same two numbers, on any machine.
+/// The source deck of `statements` statements by a number: the same deck for the same two numbers, on any machine.
 ///
 /// `statements`, 8 to 1600, counts every line of the deck. All but the last seven are `AM`, `SM` or `CM` with the operands `SUM` and a
 /// value of 0 to 999; `number`, 0 to 999999, determines which. The first has the label `START`. The last seven type the sum and halt, and
-/// declare `SUM`, the record mark behind it, and the start. Each line ends with LF, and none has a blank at its end.
+/// declare `SUM`, the record mark after it, and the start. Each line ends with LF, and no line has a blank at its end.
 ///
-/// The error is want of memory.
+/// The error is a lack of memory.
 /// Source: this project's own.
 pub fn generate(alloc: Global, statements: u32, number: u32) -> Result<Vec<u8>, AllocError>
     requires least { 8 ≤ statements }
@@ -73,7 +73,7 @@ fn push_statement(
     Ok(())
 }
 
-// Adds the lines behind the generated ones.
+// Adds the lines after the generated ones.
 fn push_closing(source: &mut Vec<u8>) -> Result<(), AllocError>
     ensures { OnOk result (source.new.items ≡ source.old.items ++ flat_map with_line_feed closing_lines) }
 {

@@ -36,7 +36,7 @@ fn push_operation(source: &mut Vec<u8>, operation: &str, operands: &str) -> Resu
     Ok(())
 }
 
-// Adds a text; blanks fill up at the right.
+// Adds a text, filled up with blanks at the right to `width` columns.
 fn push_filled(source: &mut Vec<u8>, width: usize, text: &str) -> Result<(), AllocError>
     ensures { OnOk result (source.new.items ≡ source.old.items ++ text_to_width width text.now) }
 {

@@ -2,7 +2,7 @@
 ghost use Rattle.std.specs.Prelude.{◌≡◌};
 ghost use Rattle.sps_generator.specs.Generated.{operation_of_draw, mnemonic_of};
 
-// What a generated statement does with the sum and its value.
+// The operation of a generated statement on the sum and its value.
 #[derive(Clone, Copy)]
 pub(crate) enum MadeOperation {
     AddImmediate,

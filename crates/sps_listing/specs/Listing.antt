@@ -33,37 +33,37 @@ listed_address shape p = if has_no_address shape then replicate 5 32 else digits
 abbrev pub twelve_columns : List Digit → List ℕ
 twelve_columns ds = object_text (take 12 ds) ++ replicate (12 - length ds) 32
 
--- what stands before a line: its number, its address and its first digits, each with a blank behind it
+-- the columns before a line: its number, its address and its first digits, each followed by a blank
 abbrev pub listed_columns : ℕ → Shape → PlacedText → List ℕ
 listed_columns number shape p =
     with_blank (digits_to_width 5 number) (with_blank (listed_address shape p) (with_blank (twelve_columns p.digits) []))
 
--- a line behind its columns, without the blanks at its end
+-- the columns, and then the line without the blanks at its end
 abbrev pub listing_line : ℕ → List ℕ → PlacedText → List ℕ
 listing_line number line p = listed_columns number (statement_of line).shape p ++ with_line_feed (without_back line)
 
--- lines beside their statements, the first of which has a number
+-- the listed lines of placed statements; `number` is the number of the first
 unfoldable pub listing_lines : ℕ → List (List ℕ) → List PlacedText → List ℕ
 listing_lines number [] ps = []
 listing_lines number (line ∷ lines) [] = []
 listing_lines number (line ∷ lines) (p ∷ ps) = listing_line number line p ++ listing_lines (number + 1) lines ps
 
--- THE LISTING of a source, line by line beside its placed statements
+-- THE LISTING of a source: its lines with their placed statements
 abbrev pub listing_text : List ℕ → List PlacedText → List ℕ
 listing_text source placed = listing_lines 1 (lines_of_source source) placed
 
 -- The statement at an address.
 
--- an instruction stands at the address
+-- the statement is an instruction at the address
 abbrev pub stands_at : ℕ → PlacedText → Bool
 stands_at address p = p.instruction && (nat_abs p.address == address)
 
--- the later of two statements, where both are there
+-- a later statement, if there is one; else this statement, if it is at the address
 abbrev pub later_of : Option ℕ → Bool → ℕ → Option ℕ
 later_of None here number = if here then Some number else None
 later_of (Some n) here number = Some n
 
--- the last instruction at an address, the first of the statements having a number
+-- the last instruction at an address; `number` is the number of the first statement
 unfoldable pub last_statement_at : ℕ → ℕ → List PlacedText → Option ℕ
 last_statement_at number address [] = None
 last_statement_at number address (p ∷ ps) =

@@ -1,4 +1,4 @@
--- What the writing of the texts does.
+-- The effects of writing the texts.
 use Rattle.std.specs.Prelude.{ℕ, List, Option}
 use Rattle.outside_io.specs.declared.host.Unit.TheVariants as units
 use Rattle.outside_io.specs.declared.whole.Sent.{Sent}

@@ -1,10 +1,10 @@
--- What is shown of a statement of a source.
+-- A statement of a source.
 -- Source: this project's own.
 use Rattle.std.specs.Prelude.{◌≡◌, ℕ, List, length, take}
 use Rattle.sps_listing.specs.declared.standing.StandingLine.{StandingLine}
 use Rattle.sps_listing.specs.Texts.{source_line_at}
 
--- WHAT IS SHOWN OF A STATEMENT: its number, the first 80 bytes of its line, and how many it has
+-- A STATEMENT AS SHOWN: its number, the first 80 bytes of its line, and how many bytes the line has
 pub record StandingText : Type 0 where
   pub statement : ℕ
   pub text : List ℕ
@@ -17,7 +17,7 @@ standing_text source statement = record {
   bytes = length (source_line_at source statement);
 }
 
--- a line is that
+-- the line as a value shows this text
 pub record ShowsStanding (s : StandingText) (line : StandingLine) : Type 0 where
   pub statement : line.statement ≡ s.statement
   pub text : line.text.items ≡ s.text

@@ -23,7 +23,7 @@ object_text ds = map object_char ds
 abbrev pub image_line : ℕ → List Digit → List ℕ
 image_line from ds = with_blank (digits_to_width 5 from) (with_line_feed (object_text ds))
 
--- so many lines of 50 digits, the last of which may be shorter
+-- n lines of 50 digits; the last line may be shorter
 unfoldable pub image_lines : ℕ → ℕ → List Digit → List ℕ
 image_lines zero from ds = []
 image_lines (suc n) from ds = image_line from (take 50 ds) ++ image_lines n (from + 50) (drop 50 ds)
@@ -43,28 +43,28 @@ image_text (p ∷ ps) = piece_text p ++ image_text ps
 
 -- The refusal.
 
--- a statement of a source, by its number; an empty line where there is none
+-- the line of a statement, by its number; empty if the source has no statement with that number
 abbrev pub source_line_at : List ℕ → ℕ → List ℕ
 source_line_at source zero = []
 source_line_at source (suc n) = slice_index_or (texts_of source) n []
 
--- the rules whose refusal shows an operand part, where one is told: 7 to 13, and from 20 on
+-- a refusal for the rule shows an operand part, if the part is given: 7 to 13, and from 20 on
 abbrev pub shows_part : Rule → Bool
 shows_part rule = (nat_le 7 (rule_number rule) && nat_le (rule_number rule) 13) || nat_le 20 (rule_number rule)
 
--- the part at a place without the blanks at its ends, where a place is given
+-- the part at a place without the blanks at its ends; empty if no place is given
 abbrev pub part_text : StatementText → Option ℕ → List ℕ
 part_text s None = []
 part_text s (Some place) = trimmed (part_at s place)
 
--- what a refusal shows of its statement: the label, the operation or a part, without the blanks at its ends
+-- the text that a refusal shows of its statement: the label, the operation or a part, without the blanks at its ends
 abbrev pub shown_text : Rule → Option ℕ → StatementText → List ℕ
 shown_text BadLabel part s = trimmed s.label
 shown_text DuplicateLabel part s = trimmed s.label
 shown_text UnknownOperation part s = trimmed s.operation
 shown_text rule part s = if shows_part rule then part_text s part else []
 
--- a text behind a blank, where it has a byte
+-- a text with a blank in front; an empty text stays empty
 abbrev pub behind_blank : List ℕ → List ℕ
 behind_blank text = if is_nothing text then [] else 32 ∷ text
 
@@ -78,6 +78,6 @@ unfoldable pub refusal_line : List ℕ → ℕ → Rule → Option ℕ → List 
 refusal_line source statement rule part =
     refusal_head statement rule ++ with_line_feed (behind_blank (shown_text rule part (statement_of (source_line_at source statement))))
 
--- the line without what it shows of the statement
+-- the line of a refusal without any text of the statement
 unfoldable pub short_refusal_line : ℕ → Rule → List ℕ
 short_refusal_line statement rule = with_line_feed (refusal_head statement rule)

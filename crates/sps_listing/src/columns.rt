@@ -64,7 +64,7 @@ fn has_no_address(card: &[u8]) -> bool
     holds_nothing(card)
 }
 
-// Adds the address of a statement; five blanks for one that has none.
+// Adds the address of a statement, or five blanks for a comment and a blank line.
 fn push_address(line: &mut ArrayString<LONGEST_LINE>, card: &[u8], placed: &Placed)
     requires { array_string_len line.old ≤ 20 }
     ensures bytes { line.new.bytes ≡ line.old.bytes ++ listed_address (statement_of card.now).shape (text_of_placed placed.now) }
@@ -77,7 +77,7 @@ fn push_address(line: &mut ArrayString<LONGEST_LINE>, card: &[u8], placed: &Plac
     }
 }
 
-// What stands before a line.
+// The columns before a line: its number, its address and its first digits, each followed by a blank.
 pub(crate) fn listed_columns(number: u32, card: &[u8], placed: &Placed) -> ArrayString<LONGEST_LINE>
     ensures { result.bytes
         ≡ listed_columns number (statement_of card.now).shape (text_of_placed placed.now) }

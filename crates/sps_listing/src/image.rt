@@ -64,7 +64,7 @@ fn write_piece<H: Host>(piece: &Piece, host: &mut H) -> Sent
 /// A line is the address of its first digit in five digits, a blank, the digits as object characters, and LF. The pieces follow each
 /// other in their order, and each begins a line of its own. An image without a piece has no line.
 ///
-/// `Failed` only where the host's count of faults rose: Image has been given a first part of the text, which may be empty or all.
+/// `Failed` only if the host's count of faults rose: Image has received a first part of the text, which may be empty or all.
 /// Source: this project's own.
 pub fn image_text<H: Host>(image: &Image, host: &mut H) -> Sent
     ensures { SendsImage (H.seen host.old) (H.seen host.new) image.now.pieces result }

@@ -1,4 +1,4 @@
-//! The texts of the assembler: the image, the listing, and the line of a refusal, which shows what is wrong in its statement.
+//! The texts of the assembler: the image, the listing, and the line of a refusal, which shows the error in its statement.
 #![tactic(auto)]
 
 mod columns;

@@ -19,12 +19,13 @@ fn write_line<H: Host>(number: u32, line: &[u8], placed: &Placed, host: &mut H) 
 
 /// Writes the listing of a source on Listing: a line for each statement, ended by LF.
 ///
-/// A line is the statement's number in five digits, the first being 1; its address in at least five digits, or five blanks for a comment
-/// and a blank line; its first twelve digits as object characters, filled up with blanks to twelve columns; and the source's line without
-/// the blanks at its end. A blank stands between any two of these. The address of a declarative is what its label is worth, or would be.
+/// A line is the statement's number in five digits, from 1; its address in at least five digits, or five blanks for a comment and
+/// a blank line; its first twelve digits as object characters, filled up with blanks to twelve columns; and the source's line
+/// without the blanks at its end. A blank is between any two of these. The address of a declarative is the value that its label
+/// has or would have.
 ///
-/// `assembled` is what `assemble` made of this source. No memory is taken.
-/// `Failed` only where the host's count of faults rose: Listing has been given a first part of the text, which may be empty or all.
+/// `assembled` is the result of `assemble` for this source. The call takes no memory.
+/// `Failed` only if the host's count of faults rose: Listing has received a first part of the text, which may be empty or all.
 /// Source: SPS manual, listing; the columns are this project's own.
 pub fn listing<H: Host>(source: &[u8], assembled: &Assembled, host: &mut H) -> Sent
     ensures { SendsListing (H.seen host.old) (H.seen host.new) source.now assembled.now result }

@@ -11,7 +11,7 @@ use sps_pass_one::{LookedUp, Walk, is_label, locate, part_at};
 use sps_scan::{Shape, scan};
 use std::alloc::{AllocError, Global};
 
-// The head in force at the statement with a number; none where there is no such statement.
+// The head in force at the statement with a number; None if the source has no statement with that number.
 fn head_at(source: &[u8], statement: u32) -> Option<Option<u8>>
     ensures { result ≡ head_at source.now statement }
 {
@@ -26,7 +26,7 @@ fn head_at(source: &[u8], statement: u32) -> Option<Option<u8>>
     None
 }
 
-// The earlier statement whose label stands for the same symbol as that of a statement under a head.
+// The first statement with the symbol that a statement's label has under a head, if it is an earlier statement.
 fn first_with_label(
     alloc: Global,
     source: &[u8],
@@ -43,7 +43,7 @@ fn first_with_label(
     }
 }
 
-// Rule 1 or 2, where a line of this shape breaks it.
+// Rule 1 or 2, if a line of this shape breaks it.
 fn line_rule(shape: Shape) -> Option<Rule>
     ensures { result ≡ line_rule shape }
 {
@@ -54,7 +54,7 @@ fn line_rule(shape: Shape) -> Option<Rule>
     }
 }
 
-// What a line has in the columns of its label, without the blanks at the ends.
+// The text in the label columns of a line, without the blanks at its ends.
 fn label_columns(line: &[u8]) -> &[u8]
     ensures { result.now ≡ label_columns line.now }
 {
@@ -70,7 +70,7 @@ fn has_lost_label(shape: Shape, ended: bool, name: &[u8]) -> bool
     line_rule(shape).is_some() && !ended && is_label(name)
 }
 
-// Adds a label as a symbol under its head, where it is lost.
+// Adds a label as a symbol under its head, if the label is lost.
 fn define_lost(
     alloc: Global,
     lost: bool,
@@ -88,7 +88,7 @@ fn define_lost(
     Ok(())
 }
 
-// Whether a name in the part stands for no symbol.
+// Whether a name in the part has no symbol under a head.
 fn lacks_symbol(head: Option<u8>, part: &[u8], symbols: &Symbols) -> bool
     ensures { result ≡ lacks_symbol head part.now symbols.now }
 {
@@ -98,14 +98,14 @@ fn lacks_symbol(head: Option<u8>, part: &[u8], symbols: &Symbols) -> bool
     )
 }
 
-// Whether a label is lost, and with it no name of the part lacks a symbol.
+// Whether a label is lost, and with it no name in the part lacks a symbol.
 fn suffices(lost: bool, head: Option<u8>, part: &[u8], symbols: &Symbols) -> bool
     ensures { result ≡ (lost && not (lacks_symbol head part.now symbols.now)) }
 {
     lost && !lacks_symbol(head, part, symbols)
 }
 
-// Of the statements whose labels are lost, the first such that its label and those of all before it suffice for the part.
+// The first statement with a lost label whose label, together with all earlier lost labels, suffices for the part.
 fn lost_step(
     alloc: Global,
     source: &[u8],

@@ -28,7 +28,7 @@ fn refusal_head(statement: u32, rule: Rule) -> ArrayString<LONGEST_LINE>
     line
 }
 
-/// The line of a refusal, with its LF, as `refusal` writes it, but without what it shows of the statement: `REFUSED`, the statement in
+/// The line of a refusal, with its LF, as `refusal` writes it, but without any text of the statement: `REFUSED`, the statement in
 /// at least five digits, and the rule's number in two digits and its name.
 ///
 /// `statement` is the number of the refused statement, the first being 1.
@@ -41,7 +41,7 @@ pub fn short_refusal_line(statement: u32, rule: Rule) -> ArrayString<LONGEST_LIN
     line
 }
 
-// What stands before what is shown: a blank is its last byte where anything is.
+// The line up to the shown text; it ends with a blank if the shown text is not empty.
 fn refusal_front(statement: u32, rule: Rule, shown: &[u8]) -> ArrayString<LONGEST_LINE>
     ensures { result.bytes ++ shown.now ≡ refusal_head statement rule ++ behind_blank shown.now }
 {
@@ -53,15 +53,15 @@ fn refusal_front(statement: u32, rule: Rule, shown: &[u8]) -> ArrayString<LONGES
 }
 
 /// Writes the line of a refusal on Report: `REFUSED`, the statement in at least five digits, the rule's number in two digits and its
-/// name, and behind a blank what is wrong in the statement.
+/// name, and then a blank and the text in the statement that breaks the rule.
 ///
-/// `source` is the source deck of the statement, `statement` its number, the first being 1, `rule` the rule that it breaks, and `part`
-/// the place, from 0, of the operand part that breaks it. Shown are the label for the rules 3 and 5, the operation for 4, and the part
-/// for 7 to 13 and 20, without the blanks at both ends. Where this is empty, for other rules, without a part, for a part of 10 or more,
-/// and for a statement that the source does not have, the line ends behind the rule's name.
+/// `source` is the source deck of the statement, `statement` its number, the first being 1, `rule` the rule that it breaks, and
+/// `part` the place, from 0, of the operand part that breaks it. The text is the label for the rules 3 and 5, the operation for
+/// 4, and the part for 7 to 13 and 20, without the blanks at both ends. The line ends after the rule's name if this text is
+/// empty, for other rules, without a part, for a part of 10 or more, and for a statement that the source does not have.
 ///
-/// The statement is scanned once more, and no memory is taken.
-/// `Failed` only where the host's count of faults rose: Report has been given a first part of the line, which may be empty or all.
+/// The call scans the statement once more, and takes no memory.
+/// `Failed` only if the host's count of faults rose: Report has received a first part of the line, which may be empty or all.
 pub fn refusal<H: Host>(
     source: &[u8],
     statement: u32,

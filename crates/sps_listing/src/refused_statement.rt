@@ -1,4 +1,4 @@
-// The statement that a source is refused for, as a value.
+// The refused statement of a source, as a value.
 // Source: this project's own.
 ghost use Rattle.std.specs.Prelude.{◌≡◌, take, IfOk};
 ghost use Rattle.sps_listing.specs.Others.{other_text, other_statement};
@@ -10,30 +10,30 @@ use arrayvec::ArrayVec;
 use sps_ops::Rule;
 use std::alloc::{AllocError, Global};
 
-/// The statement that a source is refused for, as it stands there.
+/// The refused statement of a source, with its line.
 #[derive(Clone, Drop)]
 pub struct RefusedLine {
     /// Its number, counted from 1.
     pub statement: u32,
     /// The least rule that it breaks.
     pub rule: Rule,
-    /// The place, from 0, of the operand part that breaks it, where the rule is one of parts.
+    /// The place, from 0, of the operand part that breaks the rule; `None` if the rule is not about a part.
     pub part: Option<u8>,
     /// The bytes of its line, up to 80.
     pub text: ArrayVec<u8, 80>,
     /// How many bytes its line has.
     pub bytes: usize,
-    /// The other statement that the refusal is about, where there is one.
+    /// The other statement that the refusal is about, if any.
     pub other: Option<OtherStatement>,
 }
 
-/// Another statement that a refusal is about: the one that has the label first, or one whose label a part lacks since that statement breaks
-/// a rule itself.
+/// Another statement that a refusal is about: the first statement with the label, or one whose label a part lacks because it
+/// breaks rule 1 or 2 itself.
 #[derive(Clone, Drop)]
 pub struct OtherStatement {
     /// Its number, counted from 1.
     pub statement: u32,
-    /// The rule that it breaks itself, where it is one whose label is lacked; none where it has the label first.
+    /// The rule, 1 or 2, that it breaks itself, so that its label is lost; `None` if it is the first statement with the label.
     pub rule: Option<Rule>,
     /// The bytes of its line, up to 80.
     pub text: ArrayVec<u8, 80>,
@@ -53,7 +53,7 @@ pub(crate) fn first_bytes(line: &[u8]) -> ArrayVec<u8, 80>
     text
 }
 
-// A statement of a source, by its number and the rule that it breaks itself.
+// The value for a statement of a source, by its number and the rule that it breaks itself.
 fn shown(source: &[u8], number: u32, rule: Option<Rule>) -> OtherStatement
     ensures { ShowsOtherText (other_text source.now (number, rule)) result }
 {
@@ -82,17 +82,17 @@ fn other_statement(
     }
 }
 
-/// The refused statement of a source with its number, the rule that it breaks and the operand part that breaks it, as they are given, its
-/// line: the first 80 bytes, and how many there are, and the other statement that the refusal is about.
+/// The refused statement of a source: the given number, rule and operand part, the first 80 bytes of its line, how many bytes the
+/// line has, and the other statement that the refusal is about.
 ///
 /// `source` is the source deck of the statement, and `statement` its number, the first being 1. The line is without its LF, and without
 /// one CR before that. It is empty for a statement that the source does not have.
 ///
-/// Where a label is there twice, the other statement is the earlier one that has it. Where a name in a part stands for no symbol, it is the
-/// first statement whose own rule 1 or 2 keeps its label from being a symbol and with whose label, and those of such statements before it,
-/// no name of the part lacks its symbol. There is none for any other rule.
+/// For `DuplicateLabel`, the other statement is the first statement with the label. For `UndefinedSymbol`, a name in the part has
+/// no symbol. The label of a statement that breaks rule 1 or 2 is lost: it gives no symbol. Then the other statement is the first
+/// whose lost label, together with the earlier lost labels, suffices for all names in the part. Otherwise it is `None`.
 ///
-/// It takes memory; the error is want of it.
+/// It takes memory; the error is a lack of memory.
 pub fn refused_line(
     alloc: Global,
     source: &[u8],

@@ -1,4 +1,4 @@
-// What a refusal shows of its statement.
+// The text that a refusal shows of its statement.
 ghost use Rattle.std.specs.Prelude.{◌≡◌};
 ghost use Rattle.sps_scan.specs.Statement.{statement_text};
 ghost use Rattle.sps_listing.specs.Texts.{source_line_at, shows_part, part_text, shown_text};
@@ -9,7 +9,7 @@ use sps_ops::Rule;
 use sps_pass_one::part_at;
 use sps_scan::Statement;
 
-// The line of a statement, by its number; an empty one where there is none.
+// The line of a statement, by its number; empty if the source has no statement with that number.
 pub(crate) fn line_at(source: &[u8], statement: u32) -> &[u8]
     ensures { result.now ≡ source_line_at source.now statement }
 {
@@ -29,14 +29,14 @@ pub(crate) fn line_at(source: &[u8], statement: u32) -> &[u8]
     }
 }
 
-// The rules whose refusal shows an operand part, where one is told.
+// Whether a refusal for the rule shows an operand part, if the part is given.
 fn shows_part(rule: Rule) -> bool
     ensures { result ≡ shows_part rule }
 {
     matches!(rule.number(), 7..=13 | 20..)
 }
 
-// The part at a place without the blanks at its ends, where a place is given.
+// The part at a place without the blanks at its ends; empty if no place is given.
 fn part_text<'a>(s: &Statement<'a>, part: Option<u8>) -> &'a [u8]
     ensures { result.now ≡ part_text (statement_text s.now) part }
 {
@@ -46,7 +46,7 @@ fn part_text<'a>(s: &Statement<'a>, part: Option<u8>) -> &'a [u8]
     }
 }
 
-// What a refusal shows of its statement: the label, the operation or a part, without the blanks at its ends.
+// The text that a refusal shows of its statement: the label, the operation or a part, without the blanks at its ends.
 pub(crate) fn shown_text<'a>(rule: Rule, part: Option<u8>, s: &Statement<'a>) -> &'a [u8]
     ensures { result.now ≡ shown_text rule part (statement_text s.now) }
 {

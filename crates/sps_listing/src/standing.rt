@@ -6,7 +6,7 @@ use crate::refused_statement::first_bytes;
 use crate::shown::line_at;
 use arrayvec::ArrayVec;
 
-/// A statement of a source, as it stands there.
+/// A statement of a source, with its line.
 #[derive(Clone, Drop)]
 pub struct StandingLine {
     /// Its number, counted from 1.
@@ -17,10 +17,10 @@ pub struct StandingLine {
     pub bytes: usize,
 }
 
-/// A statement of a source with its number, as it is given, and its line: the first 80 bytes, and how many there are.
+/// A statement of a source: the given number, the first 80 bytes of its line, and how many bytes the line has.
 ///
 /// `source` is the source deck of the statement, and `statement` its number, the first being 1. The line is without its LF, and without
-/// one CR before that. It is empty for a statement that the source does not have. No memory is taken.
+/// one CR before that. It is empty for a statement that the source does not have. The call takes no memory.
 pub fn standing_line(source: &[u8], statement: u32) -> StandingLine
     ensures { ShowsStanding (standing_text source.now statement) result }
 {

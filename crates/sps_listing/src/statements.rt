@@ -5,16 +5,16 @@ ghost use Rattle.sps_listing.specs.Listing.{placed_texts, stands_at, statement_a
 
 use sps_pass_two::{Assembled, Placed};
 
-// An instruction stands at the address.
+// Whether the statement is an instruction at the address.
 fn stands_at(address: u32, placed: &Placed) -> bool
     ensures { result ≡ stands_at address (text_of_placed placed.now) }
 {
     placed.instruction && placed.address.unsigned_abs() == u64::from(address)
 }
 
-/// The number of the last statement that is an instruction at an address, the first statement being 1; `None` where there is none.
+/// The number of the last statement that is an instruction at an address, from 1; `None` if no statement is.
 ///
-/// An instruction is at the address of its first digit. A declarative is no instruction, whatever its label is worth.
+/// An instruction is at the address of its first digit. A declarative is not an instruction, whatever the value of its label.
 /// Source: this project's own.
 pub fn statement_at(assembled: &Assembled, address: u32) -> Option<u32>
     ensures { result ≡ statement_at (placed_texts assembled.now) address }

@@ -1,4 +1,4 @@
-// Lines that are made of two parts.
+// Lines of two parts: a front and a text.
 ghost use Rattle.std.specs.Prelude.{◌≡◌, ◌++◌, IfSome, true};
 ghost use Rattle.outside_io.specs.{Sends, is_output};
 ghost use Rattle.outside_io.specs.Lines.{with_line_feed};
@@ -9,7 +9,7 @@ use outside_io::{Host, Sent, Unit, write_all};
 // Room for a front, 45 bytes at most, a text of 80 bytes and its LF.
 const WHOLE_LINE: usize = 128;
 
-// The front, the text behind it and LF, where there is room for all.
+// The front, the text after it and LF, if there is room for all.
 fn whole_line(front: &[u8], text: &[u8]) -> Option<ArrayVec<u8, WHOLE_LINE>>
     ensures { IfSome result (λ line. line.items ≡ front.now ++ with_line_feed text.now) }
 {
@@ -20,7 +20,7 @@ fn whole_line(front: &[u8], text: &[u8]) -> Option<ArrayVec<u8, WHOLE_LINE>>
     Some(line)
 }
 
-// Writes the front, the text behind it and LF one after another.
+// Writes the front, the text after it and LF, one by one.
 fn write_parts<H: Host>(unit: Unit, front: &[u8], text: &[u8], host: &mut H) -> Sent
     requires { is_output unit ≡ true }
     ensures { Sends (H.seen host.old) (H.seen host.new) unit (front.now ++ with_line_feed text.now) result }
@@ -35,7 +35,7 @@ fn write_parts<H: Host>(unit: Unit, front: &[u8], text: &[u8], host: &mut H) -> 
     }
 }
 
-// Writes the front, the text behind it and LF, by one call where there is room for all.
+// Writes the front, the text after it and LF, by one call if there is room for all.
 pub(crate) fn write_ended<H: Host>(unit: Unit, front: &[u8], text: &[u8], host: &mut H) -> Sent
     requires { is_output unit ≡ true }
     ensures { Sends (H.seen host.old) (H.seen host.new) unit (front.now ++ with_line_feed text.now) result }

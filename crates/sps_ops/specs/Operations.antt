@@ -13,7 +13,7 @@ use Rattle.sps_ops.specs.declared.operation.Declarative.TheVariants.{Ds, Dss, Da
 use Rattle.sps_ops.specs.declared.table.TheConstants.{UNIQUE_MNEMONICS, DECLARATIVES}
 use Rattle.line_words.specs.Rows.{NameRow, row, with_values, value_by_name}
 
--- the instructions, which are those of the machine
+-- the instructions of the machine, by their mnemonics
 abbrev pub mnemonics : List (NameRow InstructionRow)
 mnemonics = map (λ r. record { name = r.0; value = r.1 }) named_instructions
 
@@ -107,19 +107,19 @@ declared_in_code = map (λ r. record { name = r.0.now; value = r.1 }) DECLARATIV
 abbrev pub two_digit_text : ℕ → List ℕ
 two_digit_text n = (48 + n / 10) ∷ (48 + n % 10) ∷ []
 
--- an instruction under the two digits of its opcode
+-- an instruction's row, named by the two digits of its opcode
 abbrev pub by_digits : NameRow InstructionRow → NameRow InstructionRow
 by_digits r = record { name = two_digit_text (code_of r.value); value = r.value }
 
--- the instructions, under their mnemonics and under their digits
+-- the instructions, by their mnemonics and by their opcodes in digits
 abbrev pub opcodes : List (NameRow InstructionRow)
 opcodes = mnemonics ++ map by_digits mnemonics
 
--- an instruction by its row: immediate, so that it gets a flag on Q7 where its flag part is empty, where Q is a field in itself
+-- the operation of an instruction's row; it is immediate, so that its Q7 gets a flag, if Q is a field in the instruction itself
 abbrev pub plain_operation : InstructionRow → Operation
 plain_operation r = Instruction (code_of r) None (takes_field (uses_of r))
 
--- an instruction by a unique mnemonic, with its Q; none of these is immediate
+-- the operation of a unique mnemonic, with its opcode and its whole Q; it is never immediate
 abbrev pub whole : ℕ × ℕ → Operation
 whole u = Instruction u.0 (Some u.1) false
 

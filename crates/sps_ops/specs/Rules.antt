@@ -1,4 +1,4 @@
--- The rules: the number of each, its name, and what is said of a statement that breaks it.
+-- The rules: the number and the name of each, and the words in which the program reports it.
 use Rattle.std.specs.Prelude.{ℕ, List, codes, Option, Some, None}
 use Prim.Native.String.{String}
 use Rattle.sps_ops.specs.declared.rule.Rule.{Rule}
@@ -52,7 +52,7 @@ rule_name NoStart = codes "NoStart"
 rule_name TooManyStatements = codes "TooManyStatements"
 rule_name EvenAddress = codes "EvenAddress"
 
--- what is said: words, and behind them, where a count of digits is given, the last address at which so many digits still fit into core
+-- the words of a rule; if a count of digits is given, the last address at which this many digits still fit into core follows them
 pub record RuleWords : Type 0 where
   pub words : List ℕ
   pub digits : Option ℕ
@@ -61,16 +61,16 @@ pub record RuleWords : Type 0 where
 abbrev pub words_alone : String → RuleWords
 words_alone words = record { words = codes words; digits = None }
 
--- words, and behind them the last address at which so many digits still fit into core
+-- words, followed by the last address at which this many digits still fit into core
 abbrev pub words_with_last : String → ℕ → RuleWords
 words_with_last words digits = record { words = codes words; digits = Some digits }
 
--- what a sentence of the table says
+-- the words of a sentence of the table
 abbrev pub words_of_sentence : Sentence → RuleWords
 words_of_sentence (Plain words) = record { words = words.now; digits = None }
 words_of_sentence (WithLast words digits) = record { words = words.now; digits = Some digits }
 
--- what is wrong with a statement that breaks a rule
+-- the words in which the program reports a broken rule
 abbrev pub rule_sentence : Rule → RuleWords
 rule_sentence BadColumn = words_alone "a byte that is no character of the assembler"
 rule_sentence LongCard = words_alone "a line of over 80 bytes"

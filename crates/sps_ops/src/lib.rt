@@ -1,7 +1,7 @@
 //! The operations and the rules of the assembler.
 //!
-//! An operation is an instruction or a declarative. An instruction is named by its mnemonic, as `TF`, by its opcode in two digits, as
-//! `26`, or by a unique mnemonic, which says its whole Q as well, as `BNH`. A statement that is wrong breaks a [`Rule`].
+//! An operation is an instruction or a declarative. An instruction has a mnemonic (`TF`), an opcode in two digits (`26`), or a
+//! unique mnemonic that also gives its whole Q (`BNH`). A statement with an error breaks a [`Rule`].
 #![tactic(auto)]
 
 mod operation;

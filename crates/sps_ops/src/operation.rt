@@ -1,6 +1,6 @@
-// What an operation is.
+// Operations: instructions and declaratives.
 
-/// What a statement's operation says.
+/// The operation of a statement.
 ///
 /// Source: SPS manual, operation codes and declarative operations; which instructions get a flag on Q7 is this project's own.
 #[derive(Clone, Copy, Debug, PartialEq, Eq)]
@@ -11,7 +11,7 @@ pub enum Operation {
         opcode: u8,
         /// The whole Q of a unique mnemonic, five digits; `None` for every other instruction.
         q: Option<u32>,
-        /// Whether Q7 gets a flag where the flag part is empty: for 11, 12, 14, 16 and 17, whose Q is a number of the instruction itself.
+        /// Whether Q7 gets a flag if the flag part is empty: for 11, 12, 14, 16 and 17, as their Q is a field in the instruction.
         immediate: bool,
     },
     /// A declarative, which the assembler itself carries out.
@@ -37,7 +37,7 @@ pub enum Declarative {
     Dac,
     /// DSA, define symbolic addresses: up to ten addresses.
     Dsa,
-    /// DSB, define symbolic block: fields of one length, one behind another.
+    /// DSB, define symbolic block: fields of one length, one after another.
     Dsb,
     /// DNB, define numerical blanks.
     Dnb,
@@ -49,6 +49,6 @@ pub enum Declarative {
     Dorg,
     /// DEND, define end: the end of the deck, and the start of the program.
     Dend,
-    /// HEAD, the head of the symbols that follow.
+    /// HEAD: the head of the symbols that follow.
     Head,
 }

@@ -2,10 +2,10 @@
 // Source: this project's own.
 ghost use Rattle.std.specs.Prelude.{◌≡◌, ◌≤◌, length};
 
-/// A rule that a statement breaks. Where it breaks several, the one that comes first here is told.
+/// A rule that a statement breaks. If it breaks several rules, the assembler reports the first of them in this order.
 #[derive(Clone, Copy, Debug, PartialEq, Eq)]
 pub enum Rule {
-    /// 1: a byte of the label, the operation or an operand part is no character of the assembler.
+    /// 1: a byte of the label, the operation or an operand part is not a character of the assembler.
     BadColumn,
     /// 2: the line has over 80 bytes.
     LongCard,
@@ -13,23 +13,23 @@ pub enum Rule {
     BadLabel,
     /// 4: there is no such operation.
     UnknownOperation,
-    /// 5: the label stands for a symbol for which an earlier statement's does.
+    /// 5: the label defines a symbol that an earlier statement's label defines.
     DuplicateLabel,
     /// 6: a part that a declarative needs is empty.
     MissingOperand,
-    /// 7: a part is no expression, a Q stands beside a unique mnemonic, or a part of a HEAD is not of its form.
+    /// 7: a part is not an expression, a unique mnemonic has a Q, or a part of a HEAD does not have its form.
     BadExpression,
-    /// 8: a name stands for a symbol for which no label stands.
+    /// 8: a name refers to a symbol that no label defines.
     UndefinedSymbol,
-    /// 9: a name that has to be known here is a label of this statement or a later one.
+    /// 9: a name that has to be known here is a label of this statement or a later statement.
     LateSymbol,
     /// 10: a number is out of its range.
     ValueTooLarge,
     /// 11: a length or a count is out of its range.
     BadLength,
-    /// 12: a constant or a text is not of its form.
+    /// 12: a constant or a text does not have its form.
     BadConstant,
-    /// 13: the flag part is no rising list of positions.
+    /// 13: the flag part is not a rising list of positions.
     BadFlags,
     /// 14: a declared digit lies below 00100 or past the end of core.
     OutsideImage,
@@ -47,17 +47,17 @@ pub enum Rule {
     EvenAddress,
 }
 
-/// What the program says is wrong with a statement that breaks a rule.
+/// The words in which the program reports a broken rule.
 #[derive(Clone, Copy, Debug)]
 pub enum Sentence {
     /// These words, in a core of any size.
     Plain(&'static str),
-    /// These words, and behind them the last address at which so many digits still fit into core: 19999 for one digit in a core of
-    /// 20,000, and 19988 for the twelve of an instruction.
+    /// These words, followed by the last address at which this many digits still fit into core: 19999 for one digit in a core of
+    /// 20,000, and 19988 for the twelve digits of an instruction.
     WithLast(&'static str, u32),
 }
 
-// A row of the table of rules: the number, 1 to 20; the name, at most 17 letters; and what is wrong with a statement that breaks the rule.
+// A row of the table of rules: the number, 1 to 20; the name, at most 17 letters; and the words that report the broken rule.
 #[derive(Clone, Copy)]
 struct RuleRow {
     number: u8,
@@ -197,7 +197,7 @@ impl Rule {
         self.row().number
     }
 
-    /// The name of the rule, as it is printed: at most 17 letters.
+    /// The printed name of the rule, at most 17 letters.
     pub fn name(self) -> &'static str
         ensures is { result.now ≡ rule_name self }
         ensures short { length result.now ≤ 17 }
@@ -205,7 +205,7 @@ impl Rule {
         self.row().name
     }
 
-    /// What is wrong with a statement that breaks the rule.
+    /// The words in which the program reports this rule.
     pub fn sentence(self) -> Sentence
         ensures { words_of_sentence result ≡ rule_sentence self }
     {

@@ -1,4 +1,4 @@
-// The tables of operations, and looking one up.
+// The tables of operations, and the look-up of an operation.
 ghost use Rattle.std.specs.Prelude.{◌≡◌, ◌<◌, map, length, IfSome, Some};
 ghost use Rattle.line_words.specs.Rows.{row_from_table, value_by_name, EachRowStandsFor, HasRow};
 ghost use Rattle.line_words.specs.Blanks.{trimmed};
@@ -81,7 +81,7 @@ static DECLARATIVES: [(&str, Declarative); 14] = [
     ("HEAD", Declarative::Head),
 ];
 
-/// The law of the tables: the unique mnemonics and the declaratives are those of the definitions.
+/// The law of the tables: the tables of unique mnemonics and declaratives in the code and in the definitions are equal.
 ///
 /// Source: SPS manual, operation codes and declarative operations; which operations there are is this project's own.
 pub fn operation_law()
@@ -89,10 +89,10 @@ pub fn operation_law()
     ensures declared { declared_in_code ≡ declaratives }
 {}
 
-/// The operation of a statement's columns 12 to 15, or `None` where there is no such operation.
+/// The operation that a statement's columns 12 to 15 name, or `None` if they name no operation.
 ///
-/// An instruction is named by its mnemonic, by its opcode in two digits, or by a unique mnemonic; a declarative by its mnemonic. Blanks
-/// at both ends are ignored.
+/// An instruction is named by its mnemonic, its opcode in two digits or a unique mnemonic, and a declarative by its mnemonic.
+/// Blanks at both ends are ignored.
 /// Source: SPS manual, operation codes and declarative operations; which operations there are is this project's own.
 #[tactic(auto, using(crate::proofs::Names::operation_found))]
 pub fn lookup(op: &[u8]) -> Option<Operation>
@@ -102,7 +102,7 @@ pub fn lookup(op: &[u8]) -> Option<Operation>
     operation_of(trimmed(op))
 }
 
-// Where a name's row stands by the number that its characters make, in the three tables one behind another; 255 where no name makes it.
+// For each number of a name, the place of the name's row in the three tables, one after another; 255 if no name has the number.
 const ROWS: [u8; 512] = [
     255, 51, 255, 255, 255, 255, 255, 255, 255, 255, 255, 68, 255, 35, 255, 255, 255, 24, 255, 255,
     2, 255, 255, 255, 255, 255, 87, 255, 255, 255, 255, 255, 11, 255, 39, 255, 255, 255, 37, 255,
@@ -133,7 +133,7 @@ const ROWS: [u8; 512] = [
     255, 255,
 ];
 
-// The operation of a name that has its row where the number of its characters says; one that has it elsewhere, or nowhere, gives none.
+// The operation of a name whose row is at the place that `ROWS` gives for its number; `None` for any other name.
 #[tactic(auto, using(crate::proofs::Names::by_row))]
 fn quick_operation(name: &[u8]) -> Option<Operation>
     ensures { IfSome result (λ o. value_by_name operations name.now ≡ Some o) }
@@ -159,8 +159,9 @@ fn quick_operation(name: &[u8]) -> Option<Operation>
     None
 }
 
-// A number below 512 that a name's characters make. The factor is one by which no two names of the tables make the same number. The script
-// operation-places of `bin` finds it, and writes it and the places; a name for which that was not done is found by the search alone.
+// The number of a name, a hash below 512. The factor gives each name of the tables a number of its own. The script
+// operation-places of `bin` finds the factor, and writes it and `ROWS`; an opcode in digits, or a name that is not in `ROWS`, is
+// found by the search alone.
 fn number_of(name: &[u8]) -> usize
     ensures { result < 512 }
 {
@@ -171,7 +172,7 @@ fn number_of(name: &[u8]) -> usize
     (key.wrapping_mul(3_883_086_097) >> 23) as usize
 }
 
-// What row `k` has, where it has the name.
+// The value of row `k` if the row has this name.
 #[inline]
 fn row_at<T: Copy>(rows: &[(&str, T)], k: usize, name: &[u8]) -> Option<T>
     requires { k < length rows.now }
@@ -200,7 +201,7 @@ fn operation_of(name: &[u8]) -> Option<Operation>
     searched_operation(name)
 }
 
-// The same, each table searched for it.
+// The operation of a name, found by a search of each table.
 #[cold]
 #[inline(never)]
 #[tactic(auto, using(crate::proofs::JoinedTables::operation_by_table))]
@@ -277,7 +278,7 @@ fn two_digit_text(n: u8) -> [u8; 2]
     [b'0' + n / 10, b'0' + n % 10]
 }
 
-// An instruction by its row. It is immediate, so that its Q7 gets a flag, where Q is a field in the instruction itself.
+// The operation of an instruction's row. It is immediate, so that its Q7 gets a flag, if Q is a field in the instruction itself.
 fn plain_operation(row: InstructionRow) -> Operation
     ensures { result ≡ plain_operation row }
 {
@@ -289,7 +290,7 @@ fn plain_operation(row: InstructionRow) -> Operation
     }
 }
 
-// An instruction by a unique mnemonic, which says its opcode and its whole Q. None of them is immediate.
+// The operation of a unique mnemonic, with its opcode and its whole Q; it is never immediate.
 fn whole(named: (u8, u32)) -> Operation
     ensures { result ≡ whole named }
 {

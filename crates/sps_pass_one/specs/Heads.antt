@@ -15,11 +15,11 @@ is_head_text [] = true
 is_head_text (h ∷ []) = is_letter_or_digit h
 is_head_text (h ∷ i ∷ hs) = false
 
--- the first part of a HEAD, blanks at its ends ignored
+-- the first part of a HEAD without the blanks at its ends
 abbrev pub head_text : StatementText → List ℕ
 head_text s = trimmed (part_at s 0)
 
--- the rules that a HEAD breaks: its first part is a head or empty, and its second and third parts are empty
+-- the faults of a HEAD: its first part must be a head or empty, and its second and third parts must be empty
 abbrev pub head_faults : StatementText → List Fault
 head_faults s =
     broken_at_if (not (is_head_text (head_text s))) BadExpression 0
@@ -31,6 +31,6 @@ abbrev pub first_byte : List ℕ → Option ℕ
 first_byte [] = None
 first_byte (h ∷ hs) = Some h
 
--- the head that a HEAD says, or none where its first part is empty
+-- the head that a HEAD sets, or None if its first part is empty
 abbrev pub head_in : StatementText → Option ℕ
 head_in s = first_byte (head_text s)

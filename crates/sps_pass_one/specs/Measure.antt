@@ -19,11 +19,11 @@ use Rattle.sps_pass_one.specs.declared.ask.Ask.{Ask}
 use Rattle.sps_pass_one.specs.declared.ask.Form.{Form}
 use Rattle.sps_pass_one.specs.Faults.{fault_at, broken_if}
 
--- a part of a statement; there are ten, the last ones of which may be empty
+-- the part of a statement at a place; after the ten parts the text is empty
 abbrev pub part_at : StatementText → ℕ → List ℕ
 part_at s place = slice_index_or s.parts place []
 
--- a part is empty where it holds nothing but blanks
+-- a part is empty if it has only blanks
 abbrev pub lacks : StatementText → ℕ → Bool
 lacks s place = is_blank (part_at s place)
 
@@ -63,7 +63,7 @@ address_ask place needed odd = record {
   odd = odd;
 }
 
--- what is asked for is a length or an address of five digits at most
+-- the valid values lie within 0 to 99,999
 pub record IsSmall (q : Ask) : Type 0 where
   pub low : pos 0 ≤ℤ q.low
   pub high : q.high ≤ℤ pos 99999
@@ -71,11 +71,11 @@ pub record IsSmall (q : Ask) : Type 0 where
 abbrev pub IsSmallForm : Form → Type 0
 IsSmallForm f = ForSome f.n IsSmall × ForSome f.k IsSmall × ForSome f.a IsSmall
 
--- a form without a count
+-- a form with at most a length and an address
 abbrev pub form_with : Option Ask → Option Ask → Form
 form_with n a = record { n = n; k = None; a = a; either = false; text = false }
 
--- a form with a length and an address, the parts of which may not both be empty
+-- a form with a length and an address; their parts may not both be empty
 abbrev pub form_of_either : Ask → Ask → Form
 form_of_either n a = record { n = Some n; k = None; a = Some a; either = true; text = false }
 
@@ -87,8 +87,8 @@ form_of_text n a = record { n = Some n; k = None; a = Some a; either = false; te
 abbrev pub form_of_block : Ask → Ask → Ask → Form
 form_of_block n k a = record { n = Some n; k = Some k; a = Some a; either = false; text = false }
 
--- THE TABLE: what each declarative asks of n, k and A
---   either: one of the first two parts must be there; text: the second part is a text, which is there where a comma is
+-- THE TABLE: the conditions of each declarative on n, k and A
+--   either: one of the first two parts is needed; text: the second part is a text, and a comma before it is needed
 abbrev pub form_of : Declarative → Form
 form_of Ds = form_of_either (length_ask 0 (pos 99999) false) (address_ask 1 false false)
 form_of Dss = form_of_either (length_ask 0 (pos 99999) false) (address_ask 1 false false)
@@ -105,7 +105,7 @@ form_of Dorg = form_with None (Some (address_ask 0 true false))
 form_of Dend = form_with None None
 form_of Head = form_with None None
 
--- what an operand comes to, and the rules that it breaks
+-- the value of an operand, and the rules that it breaks
 pub record OperandAnswer : Type 0 where
   pub faults : List Fault
   pub value : Option ℤ
@@ -119,7 +119,7 @@ bad f = record { faults = f ∷ []; value = None }
 abbrev pub nothing : OperandAnswer
 nothing = record { faults = []; value = None }
 
--- the number of one or two digits
+-- the number that one or two digits stand for; any other text breaks rule 11
 abbrev pub or_bad_length : Option ℕ → Result ℤ Rule
 or_bad_length None = Err BadLength
 or_bad_length (Some n) = Ok (pos n)
@@ -134,7 +134,7 @@ read_as TwoDigits scope part = short_value part
 abbrev pub is_even : ℤ → Bool
 is_even v = nat_abs v % 2 == 0
 
--- a value against what is asked; the range is looked at only where there is a value, and whether it is odd only within the range
+-- the answer for a value or a broken rule: a value must be in range, and only a value within the range is checked for being odd
 abbrev pub in_bounds : Ask → Result ℤ Rule → OperandAnswer
 in_bounds q (Err rule) = bad (fault_at rule q.place)
 in_bounds q (Ok v) =
@@ -145,7 +145,7 @@ in_bounds q (Ok v) =
 abbrev pub missing_answer : Bool → OperandAnswer
 missing_answer needed = record { faults = broken_if needed MissingOperand; value = None }
 
--- an operand against what is asked of it
+-- the answer for an operand: its value, or the rules that it breaks
 unfoldable pub answer : Scope → StatementText → Ask → OperandAnswer
 answer scope s q =
     if lacks s q.place then missing_answer q.needed
@@ -155,14 +155,14 @@ abbrev pub answer_if : Scope → StatementText → Option Ask → OperandAnswer
 answer_if scope s None = nothing
 answer_if scope s (Some q) = answer scope s q
 
--- the same of a statement of the program, in a scope of the program
+-- the answer for an operand, with a statement and a scope of the program
 abbrev pub answer_in : GivenScope → Statement → Ask → OperandAnswer
 answer_in scope s q = answer (scope_now scope) (statement_text s) q
 
 abbrev pub if_asked : GivenScope → Statement → Option Ask → OperandAnswer
 if_asked scope s q = answer_if (scope_now scope) (statement_text s) q
 
--- what n, k and A come to, 0 standing for a length that is not there
+-- the values of n, k and A, with 0 for a length or a count that is missing, and their faults
 pub record Measure : Type 0 where
   pub faults : List Fault
   pub n : ℕ
@@ -178,22 +178,22 @@ abbrev pub natural_address : Option ℤ → Option ℕ
 natural_address None = None
 natural_address (Some v) = Some (nat_abs v)
 
--- an address that is not there counts as 0
+-- an address, or 0 if there is no address
 abbrev pub size_or_0 : Option ℕ → ℕ
 size_or_0 None = 0
 size_or_0 (Some a) = a
 
--- n and A are both empty where one must be there, or no comma stands before the text
+-- n and A are both empty but one of them is needed, or a text has no comma before it
 abbrev pub lacking_faults : StatementText → Form → List Fault
 lacking_faults s f =
     broken_if (f.either && (lacks s 0 && lacks s 1)) MissingOperand
     ++ broken_if (f.text && (s.count == 1)) MissingOperand
 
--- the rules that an operand breaks, where the declarative may have it
+-- the faults of an operand; none if the declarative does not have the operand
 abbrev pub faults_of : Scope → StatementText → Option Ask → List Fault
 faults_of scope s q = (answer_if scope s q).faults
 
--- the operands of a declarative against its row of the table
+-- the values and the faults of a declarative's operands, by its row of the table
 unfoldable pub measure : Scope → StatementText → Form → Measure
 measure scope s f = record {
   faults = lacking_faults s f ++ (faults_of scope s f.n ++ (faults_of scope s f.k ++ faults_of scope s f.a));
@@ -202,6 +202,6 @@ measure scope s f = record {
   a = natural_address (answer_if scope s f.a).value;
 }
 
--- the same of a statement of the program, in a scope of the program
+-- the measure of a declarative, with a statement and a scope of the program
 abbrev pub measure_in : GivenScope → Statement → Form → Measure
 measure_in scope s f = measure (scope_now scope) (statement_text s) f

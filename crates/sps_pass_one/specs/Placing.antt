@@ -1,4 +1,4 @@
--- Where a statement puts its label and its digits, and where the next one begins.
+-- Where a statement puts its label and its digits, and where the next statement begins.
 -- Source: SPS manual, declarative operations and location counter; the exact lengths and labels of declaratives, and
 -- what a broken statement takes, are this project's own.
 use Rattle.std.specs.Prelude.{ℕ, suc, ◌+◌, ◌-◌, ◌*◌, ◌%◌, Bool, true, false, ◌==◌, List, [], ◌∷◌, Option, Some, None, if◌then◌else◌}
@@ -39,7 +39,7 @@ field_size Dorg n k = 0
 field_size Dend n k = 0
 field_size Head n k = 0
 
--- how many positions of its field stand before the one that its label is the address of
+-- how many positions of a declarative's field lie before the position that its label addresses
 abbrev pub label_place : Declarative → ℕ → ℕ
 label_place Ds n = n - 1
 label_place Dss n = 0
@@ -56,7 +56,7 @@ label_place Dorg n = 0
 label_place Dend n = 0
 label_place Head n = 0
 
--- the positions of its field are declared: their digits enter the image
+-- a declarative declares the positions of its field: their digits enter the image
 abbrev pub declares : Declarative → Bool
 declares Ds = false
 declares Dss = false
@@ -73,22 +73,22 @@ declares Dorg = false
 declares Dend = false
 declares Head = false
 
--- its field begins at an even address
+-- a declarative's field begins at an even address
 abbrev pub begins_even : Declarative → Bool
 begins_even Das = true
 begins_even Dac = true
 begins_even d = false
 
--- it says where the next digits go
+-- a declarative sets where the next digits go
 abbrev pub moves_origin : Declarative → Bool
 moves_origin Dorg = true
 moves_origin d = false
 
--- the next even address, from an address on
+-- the first even address from an address on
 abbrev pub even_up : ℕ → ℕ
 even_up at = at + at % 2
 
--- nothing is put anywhere
+-- the placing of a statement that takes no digits
 abbrev pub nothing_at : ℕ → Placing
 nothing_at at = record { label = at; digits = 0; next = at }
 
@@ -99,8 +99,8 @@ declared_size d n k = if declares d then field_size d n k else 0
 abbrev pub field_begin : Declarative → ℕ → ℕ
 field_begin d at = if begins_even d then even_up at else at
 
--- without an address the field is put at the location, which moves past it; with one the label is that address, the field lies round
--- it, and the location stays, but for DORG, which moves it there
+-- without an address the field lies at the location, which moves past it; with an address the label is that address, and the
+-- field lies around it; then the location stays, except that DORG moves it to the address
 abbrev pub field_placing : Declarative → ℕ → ℕ → ℕ → Option ℕ → Placing
 field_placing d at n k None = record {
   label = field_begin d at + label_place d n;
@@ -113,12 +113,12 @@ field_placing d at n k (Some a) = record {
   next = if moves_origin d then a else at;
 }
 
--- n is the length, or the number of addresses that are listed
+-- the length of a declarative, or the number of addresses that a DSA lists
 abbrev pub count_of : Declarative → StatementText → ℕ → ℕ
 count_of Dsa s n = listed_count s.parts
 count_of d s n = n
 
--- a statement whose layout is broken takes no digits, and its label has the location before it
+-- a declarative whose layout is broken takes no digits, and its label has the location before it as its value
 abbrev pub declared_placing : Declarative → ℕ → StatementText → Measure → Placing
 declared_placing d at s m = if is_nothing m.faults then field_placing d at (count_of d s m.n) m.k m.a else nothing_at at
 
@@ -126,7 +126,7 @@ declared_placing d at s m = if is_nothing m.faults then field_placing d at (coun
 abbrev pub instruction_placing : ℕ → Placing
 instruction_placing at = record { label = even_up at; digits = 12; next = even_up at + 12 }
 
--- by the operation; an unknown one takes no digits
+-- the placing of a statement by its operation; with an unknown operation it takes no digits
 abbrev pub placing_of : Scope → ℕ → StatementText → Option Operation → Placing
 placing_of scope at s None = nothing_at at
 placing_of scope at s (Some (Instruction opcode q immediate)) = instruction_placing at

@@ -1,4 +1,4 @@
-// What a declarative asks of its operands.
+// The conditions on the operands of a declarative.
 ghost use Rattle.std.specs.Prelude.{◌≡◌, ◌≤ℤ◌, pos};
 ghost use Rattle.sps_pass_one.specs.Measure.{form_of, length_ask, text_length_ask, address_ask, form_with, IsSmall, IsSmallForm};
 
@@ -11,11 +11,11 @@ use sps_ops::{Declarative, Rule};
 pub enum OperandReading {
     /// As an expression.
     Expression,
-    /// As one or two digits and nothing else, as the n of a DAC.
+    /// As one or two digits and nothing else, like the n of a DAC.
     TwoDigits,
 }
 
-/// What is asked of an operand: where it stands, how it is read, and which values are good.
+/// The conditions on an operand: its place, how it is read, and which values are valid.
 ///
 /// Source: this project's own.
 #[derive(Clone, Copy, Debug, PartialEq, Eq)]
@@ -28,7 +28,7 @@ pub struct Ask {
     pub low: i64,
     /// The greatest value.
     pub high: i64,
-    /// The rule that is broken by a value below `low` or above `high`.
+    /// The rule that a value below `low` or above `high` breaks.
     pub over: Rule,
     /// Whether an empty part breaks rule 6.
     pub needed: bool,
@@ -36,20 +36,20 @@ pub struct Ask {
     pub odd: bool,
 }
 
-/// What a declarative asks of the operands on which the layout depends: its length n, its count k and its address A.
+/// The conditions on those operands of a declarative that set its layout: its length n, its count k and its address A.
 ///
 /// Source: this project's own.
 #[derive(Clone, Copy, Debug, PartialEq, Eq)]
 pub struct Form {
-    /// The length n, where it has one.
+    /// The length n, if the declarative has a length.
     pub n: Option<Ask>,
-    /// The count k, where it has one.
+    /// The count k, if the declarative has a count.
     pub k: Option<Ask>,
-    /// The explicit address A, where it may have one.
+    /// The explicit address A, if the declarative may have an address.
     pub a: Option<Ask>,
-    /// Whether rule 6 is broken where the first two parts are both empty.
+    /// Whether the statement breaks rule 6 if its first two parts are both empty.
     pub either: bool,
-    /// Whether the second part is a text, so that rule 6 is broken where no comma follows the first part.
+    /// Whether the second part is a text, so that the statement breaks rule 6 if no comma follows the first part.
     pub text: bool,
 }
 
@@ -102,7 +102,7 @@ fn address_ask(place: u8, needed: bool, odd: bool) -> Ask
     }
 }
 
-// A form with a length, or none, and with an address.
+// A form with at most a length and an address.
 fn form_with(n: Option<Ask>, a: Option<Ask>) -> Form
     ensures { result ≡ form_with n a }
 {
@@ -115,10 +115,10 @@ fn form_with(n: Option<Ask>, a: Option<Ask>) -> Form
     }
 }
 
-/// What a declarative asks of its length n, its count k and its explicit address A.
+/// The conditions on the length n, the count k and the explicit address A of a declarative.
 ///
-/// n of DC, DSC, DAC and DNB is 1 to 50, and n of DS, DSS, DAS and DSB and k are 1 to 99,999; other values break rule 11. A is 0 to
-/// 99,999, and other values break rule 10; for DAS and DAC it is odd, or rule 20 is broken. DSA, DDA, DEND and HEAD ask nothing here.
+/// n of DC, DSC, DAC and DNB is 1 to 50, and n of DS, DSS, DAS and DSB and k are 1 to 99,999; other values break rule 11. A is 0
+/// to 99,999, and other values break rule 10; an even A of DAS or DAC breaks rule 20. DSA, DDA, DEND and HEAD have no conditions.
 /// Source: SPS manual, declarative operations; the operand lists and their ranges are this project's own.
 pub fn form_of(d: Declarative) -> Form
     ensures is { result ≡ form_of d }

@@ -1,4 +1,4 @@
-// The rules that a statement breaks, and which of them is told.
+// The faults of a statement, and which of them the assembler reports.
 // Source: this project's own.
 ghost use Rattle.std.specs.Prelude.{◌≡◌, ◌<◌};
 ghost use Rattle.sps_pass_one.specs.Faults.{part_order, fault_order, lesser, least, broken_if, broken_at_if};
@@ -7,16 +7,16 @@ use sps_ops::Rule;
 
 /// A rule that a statement breaks, and the part that breaks it.
 ///
-/// The lesser of two faults has the lower rule. Of one rule, a fault without a part comes first, and then an earlier part before a later.
+/// The lesser of two faults has the lower rule. Within a rule, a fault without a part comes first, and then the earlier part.
 #[derive(Clone, Copy, Debug, PartialEq, Eq)]
 pub struct Fault {
     /// The rule.
     pub rule: Rule,
-    /// The place of the part among the statement's parts, from 0, for the rules about a part; `None` for all others.
+    /// The place of the part among the statement's parts, from 0, for a rule about a part; `None` for any other rule.
     pub part: Option<u8>,
 }
 
-// A fault without a part comes before those with one.
+// A fault without a part comes before a fault with a part.
 fn part_order(part: Option<u8>) -> u32
     ensures is { result ≡ part_order part }
     ensures small { result < 1000 }
@@ -27,14 +27,14 @@ fn part_order(part: Option<u8>) -> u32
     }
 }
 
-// Faults go by the numbers of their rules, and those of one rule by their parts.
+// The order of faults: first by the number of the rule, then by the part.
 fn fault_order(fault: Fault) -> u32
     ensures { result ≡ fault_order fault }
 {
     1000 * u32::from(fault.rule.number()) + part_order(fault.part)
 }
 
-// The lesser of two, the first one where they are equal.
+// The lesser of two faults, or the first of them if they are equal.
 pub(crate) fn lesser(worst: Option<Fault>, fault: Fault) -> Option<Fault>
     ensures { result ≡ lesser worst fault }
 {
@@ -50,9 +50,9 @@ pub(crate) fn lesser(worst: Option<Fault>, fault: Fault) -> Option<Fault>
     }
 }
 
-/// The least fault of a statement once one more rule is looked at, which is broken where the test holds.
+/// The least fault of a statement after one more check: if the test holds, the statement breaks this rule.
 ///
-/// `worst` is the least fault of those looked at before, and `None` where there was none.
+/// `worst` is the least fault of the checks before, or `None` if they found no fault.
 #[tactic(auto, unfolding(crate::specs::Faults::least))]
 pub fn broken_if(worst: Option<Fault>, test: bool, rule: Rule) -> Option<Fault>
     ensures { result ≡ least worst (broken_if test rule) }
@@ -64,9 +64,9 @@ pub fn broken_if(worst: Option<Fault>, test: bool, rule: Rule) -> Option<Fault>
     }
 }
 
-/// The least fault of a statement once one more rule is looked at, which the part at a place breaks where the test holds.
+/// The least fault of a statement after one more check: if the test holds, the part at a place breaks this rule.
 ///
-/// `worst` is the least fault of those looked at before, and `None` where there was none. `place` counts the parts from 0.
+/// `worst` is the least fault of the checks before, or `None` if they found no fault. `place` counts the parts from 0.
 #[tactic(auto, unfolding(crate::specs::Faults::least))]
 pub fn broken_at_if(worst: Option<Fault>, test: bool, rule: Rule, place: u8) -> Option<Fault>
     ensures { result ≡ least worst (broken_at_if test rule place) }

@@ -10,7 +10,7 @@ use line_words::trimmed;
 use sps_ops::Rule;
 use sps_scan::Statement;
 
-// The first part of a HEAD, blanks at its ends ignored.
+// The first part of a HEAD without the blanks at its ends.
 fn head_text<'a>(s: &Statement<'a>) -> &'a [u8]
     ensures { result.now ≡ head_text (statement_text s.now) }
 {
@@ -28,7 +28,7 @@ fn is_head_text(text: &[u8]) -> bool
     }
 }
 
-/// The least fault of a HEAD once its parts are looked at: the first is one letter or digit, or empty, and the second and third are empty.
+/// The least fault of a HEAD after the check of its parts: the first is one letter or digit, or empty; the others are empty.
 ///
 /// `worst` is the least fault of the statement so far.
 /// Source: this project's own.
@@ -42,7 +42,7 @@ pub fn head_faults(worst: Option<Fault>, s: &Statement<'_>) -> Option<Fault>
     broken_at_if(worst, !lacks(s, 2), Rule::BadExpression, 2)
 }
 
-// The head that a HEAD says, or none where its first part is empty.
+// The head that a HEAD sets, or `None` if its first part is empty.
 pub(crate) fn head_in(s: &Statement<'_>) -> Option<u8>
     ensures { result ≡ head_in (statement_text s.now) }
 {

@@ -19,7 +19,7 @@ use sps_scan::{Shape, Statement, scan};
 use std::alloc::{AllocError, Global};
 use std::marker::Model;
 
-/// The number of statements that a source may have at most; the next one breaks a rule, and what stands behind it isn't looked at.
+/// The greatest number of statements in a source; the next statement breaks rule 19, and the assembler ignores later lines.
 ///
 /// Source: this project's own.
 pub const MOST_STATEMENTS: u32 = 20_000;
@@ -52,7 +52,7 @@ impl Places {
         Places(places)
     }
 
-    /// The places as a slice; that of statement 1 comes first.
+    /// The places as a slice; the place of statement 1 comes first.
     ///
     /// Source: this project's own.
     pub fn as_slice(&self) -> &[Place]
@@ -62,20 +62,20 @@ impl Places {
     }
 }
 
-/// Where the statements of a source stand, and what its labels are worth.
+/// The places of the statements of a source, and its symbols.
 ///
 /// Source: this project's own.
 #[derive(Drop)]
 pub struct Located {
     /// One place for each statement.
     pub places: Places,
-    /// Each label, with the value of the first statement that has it.
+    /// Each symbol that a label defines, with the value of the first of its labels.
     pub symbols: Symbols,
 }
 
-/// Whether a statement counts: it is plain, and no DEND stands before it.
+/// Whether a statement counts: it is plain, and it does not follow a DEND.
 ///
-/// One that does not count has no label and takes no digits. `ended` says whether a DEND that counts stands before it.
+/// A statement that does not count defines no label and takes no digits. `ended` says whether it follows a DEND that counts.
 /// Source: this project's own.
 pub fn counts_if(ended: bool, shape: Shape) -> bool
     ensures { result ≡ counts_if ended shape }
@@ -86,7 +86,7 @@ pub fn counts_if(ended: bool, shape: Shape) -> bool
     }
 }
 
-/// The operation of a statement, or `None` where there is no such operation.
+/// The operation of a statement, or `None` if there is no such operation.
 ///
 /// Source: SPS manual, operation codes and declarative operations.
 pub fn operation_of(s: &LookedUp<'_>) -> Option<Operation>
@@ -95,7 +95,7 @@ pub fn operation_of(s: &LookedUp<'_>) -> Option<Operation>
     s.operation
 }
 
-// What a statement does at a location; nothing where it does not count.
+// The placing of a statement at a location; a statement that does not count takes no digits.
 fn placing_if(
     active: bool,
     head: Option<u8>,
@@ -117,7 +117,7 @@ fn placing_if(
 
 /// Whether a text without blanks at its ends is a label: letters and digits with a letter among them.
 ///
-/// Letters are `A` to `Z`. The columns of a label leave room for six characters, and so the length is not looked at.
+/// Letters are `A` to `Z`. The function doesn't check the length: the columns of a label have room for six characters only.
 /// Source: SPS manual, labels; which characters a label may have is this project's own.
 pub fn is_label(name: &[u8]) -> bool
     ensures { result ≡ is_label name.now }
@@ -125,7 +125,7 @@ pub fn is_label(name: &[u8]) -> bool
     is_name(name)
 }
 
-// The label of a statement: its text without the blanks at its ends, what it is worth, and the number of the statement.
+// The label of a statement: its text without the blanks at its ends, its value, and the number of the statement.
 #[derive(Clone, Copy)]
 struct Label<'s> {
     name: &'s [u8],
@@ -133,7 +133,7 @@ struct Label<'s> {
     statement: u32,
 }
 
-// Adds the symbol that the label of a statement stands for, where the statement counts and no earlier one's label does.
+// Adds the symbol of a statement's label if the statement counts, the label is valid, and no earlier label defines the symbol.
 fn define_label(
     alloc: Global,
     active: bool,
@@ -159,9 +159,9 @@ fn is_end(operation: Option<Operation>) -> bool
     matches!(operation, Some(Operation::Declare(Declarative::Dend)))
 }
 
-/// Whether a DEND that counts stands before the next statement.
+/// Whether the next statement follows a DEND that counts.
 ///
-/// `ended` says the same of this statement, and `active` whether this one counts.
+/// `ended` says whether this statement follows a DEND that counts, and `active` whether this statement counts.
 /// Source: this project's own.
 pub fn ends_if(ended: bool, active: bool, s: &LookedUp<'_>) -> bool
     ensures { result ≡ ends_if ended active (statement_text s.now.scanned.now) }
@@ -176,8 +176,8 @@ fn is_head(operation: Option<Operation>) -> bool
     matches!(operation, Some(Operation::Declare(Declarative::Head)))
 }
 
-// The head in force behind a statement: a HEAD that counts and breaks no rule of its parts says it.
-// `head` is the one before the statement, and `active` says whether this one counts.
+// The head in force after a statement: a HEAD that counts, and whose parts break no rule, sets it.
+// `head` is the head in force before the statement, and `active` says whether the statement counts.
 pub(crate) fn head_after(head: Option<u8>, active: bool, s: &LookedUp<'_>) -> Option<u8>
     ensures { result ≡ head_after head active (statement_text s.now.scanned.now) }
 {
@@ -191,12 +191,12 @@ pub(crate) fn head_after(head: Option<u8>, active: bool, s: &LookedUp<'_>) -> Op
     }
 }
 
-/// Finds where the statements of a source stand, and what its labels are worth.
+/// Finds the places of the statements of a source, and its symbols.
 ///
-/// The location begins at 00402, and no head is in force at first. A label has the value of the first statement that has it. Of a source with more than 20,000 statements
-/// the first 20,001 are looked at.
+/// The location begins at 00402, and no head is in force at first. A symbol has the value of the first label that defines it. The
+/// function reads at most 20,001 statements.
 ///
-/// It takes memory; the error is want of it.
+/// It takes memory; the error is a lack of memory.
 /// Source: SPS manual, location counter and labels; what a broken statement takes is this project's own.
 pub fn locate(alloc: Global, source: &[u8]) -> Result<Located, AllocError>
     ensures places { IfOk result (λ l. l.places ≡ statement_places source.now) }
@@ -232,20 +232,20 @@ pub fn locate(alloc: Global, source: &[u8]) -> Result<Located, AllocError>
     })
 }
 
-/// The layout of a source: where its statements stand, what its labels are worth, and where the layout is broken.
+/// The layout of a source: the places of its statements, its symbols, and its first statement with a broken layout.
 ///
 /// Source: this project's own.
 #[derive(Drop)]
 pub struct Layout {
     /// One place for each statement.
     pub places: Places,
-    /// Each label, with the value of the first statement that has it.
+    /// Each symbol that a label defines, with the value of the first of its labels.
     pub symbols: Symbols,
-    /// The first statement whose operation is unknown or whose layout is broken, counted from 1, with the least of the rules that do so.
+    /// The first statement whose operation is unknown or whose layout is broken, counted from 1, with its least broken rule.
     pub broken: Option<(u32, Rule)>,
 }
 
-// The rules that break the layout of a statement that counts.
+// The least fault in the layout of a statement that counts.
 #[tactic(auto, unfolding(crate::specs::Faults::least))]
 fn operation_faults(
     head: Option<u8>,
@@ -272,7 +272,7 @@ fn operation_faults(
     }
 }
 
-// The rules that break the layout of a statement.
+// The least fault in the layout of a statement.
 #[tactic(auto, unfolding(crate::specs::Layout::layout_faults, crate::specs::Faults::least))]
 fn layout_faults(
     head: Option<u8>,
@@ -299,7 +299,7 @@ fn layout_faults(
     }
 }
 
-// The first statement whose layout is broken, with the least rule.
+// The first statement whose operation is unknown or whose layout is broken, with the least rule.
 fn first_broken_rule(source: &[u8], located: &Located) -> Option<(u32, Rule)>
     requires places { located.now.places ≡ statement_places source.now }
     requires symbols { located.now.symbols ≡ symbols_of source.now }
@@ -325,15 +325,15 @@ fn first_broken_rule(source: &[u8], located: &Located) -> Option<(u32, Rule)>
     None
 }
 
-/// Lays a source out: finds the location of each statement, the value of each label, and the first statement whose layout is broken.
+/// Lays out a source: finds the place of each statement, the symbols, and the first unknown operation or broken layout.
 ///
-/// It is for callers from outside: the assembler calls [`locate`], and its second pass finds what is broken.
-/// The location begins at 00402. A label has the value of the first statement that has it. A layout is broken where n, k, A or the text of a
-/// DAC breaks one of the rules 6 to 11 or 20; such a statement takes no digits, and its label is the location before it. What else a
-/// statement may break, as an undefined symbol in an instruction, changes no layout. Of a source with more than 20,000 statements the first
-/// 20,001 are looked at.
+/// It is for callers from outside: the assembler calls [`locate`], and its second pass finds the first broken rule. The location
+/// begins at 00402. A symbol has the value of the first label that defines it. A layout is broken if n, k, A or the text of a DAC
+/// breaks one of the rules 6 to 11 or 20. Then the statement takes no digits, and its label has the location before it as its
+/// value. Any other broken rule, for example an undefined symbol in an instruction, changes no layout. The function reads at most
+/// 20,001 statements.
 ///
-/// It takes memory; the error is want of it.
+/// It takes memory; the error is a lack of memory.
 /// Source: SPS manual, location counter and labels; which statements are broken is this project's own.
 pub fn lay_out(alloc: Global, source: &[u8]) -> Result<Layout, AllocError>
     ensures places { IfOk result (λ l. l.places ≡ statement_places source.now) }

@@ -1,9 +1,10 @@
-//! The first pass of the assembler: where each statement stands, and what its label is worth.
+//! The first pass of the assembler: it finds the location and the label's value of each statement.
 //!
-//! `locate` reads a source once and gives the location, the label's value and the number of digits of each statement, and the symbols.
-//! `lay_out` looks besides for the first statement whose layout is broken; for that it reads the source again, since only then all labels
-//! are known. Both go by a `Walk`, as all do that go over the statements of a source. The second pass asks again for a statement's
-//! operands, by `measure`, `answer` and `in_bounds`, and for the least rule that they break, by `broken_if` and `broken_at_if`.
+//! `locate` reads a source once and gives the location, the label's value and the number of digits of each statement, and the
+//! symbols. `lay_out` also finds the first statement whose layout is broken; for this it reads the source again, since only then
+//! all labels are known. Both use a `Walk`, as does all code that goes over the statements of a source. The second pass evaluates
+//! a statement's operands again, with `measure`, `answer` and `in_bounds`, and finds the least rule that they break, with
+//! `broken_if` and `broken_at_if`.
 #![tactic(auto)]
 
 mod ask;

@@ -5,7 +5,7 @@ ghost use Rattle.sps_ops.specs.Operations.{lookup};
 use sps_ops::{Operation, lookup};
 use sps_scan::Statement;
 
-/// A statement with the operation that its columns 12 to 15 name, which is looked up once in each pass.
+/// A statement with the operation that its columns 12 to 15 name; each pass looks it up once.
 ///
 /// Source: SPS manual, operation codes and declarative operations.
 #[derive(Clone, Copy)]

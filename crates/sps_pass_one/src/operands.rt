@@ -1,4 +1,4 @@
-// What operands come to, and the rules that they break.
+// The values of operands, and the rules that they break.
 // Source: this project's own.
 ghost use Rattle.std.specs.Prelude.{◌≡◌, ◌≤◌};
 ghost use Rattle.sps_scan.specs.Statement.{statement_text};
@@ -14,33 +14,33 @@ use sps_expr::Scope;
 use sps_ops::Rule;
 use sps_scan::{Statement, short_number};
 
-/// What an operand comes to, and the least fault of its statement so far.
+/// The value of an operand, and the least fault of its statement so far.
 #[derive(Clone, Copy)]
 pub struct Answered {
-    /// The least fault, `None` where no rule was broken.
+    /// The least fault, or `None` if no rule is broken.
     pub worst: Option<Fault>,
-    /// The value; `None` where the part is empty or breaks a rule.
+    /// The value, or `None` if the part is empty or breaks a rule.
     pub value: Option<i64>,
 }
 
-/// What the length, the count and the explicit address of a declarative come to, and the least fault of its statement so far.
+/// The length, the count and the explicit address of a declarative, and the least fault of its statement so far.
 ///
-/// A length or a count that breaks a rule is 0 too, and an address that does is `None`.
+/// A length or a count that breaks a rule is 0 too, and an address that breaks a rule is `None`.
 #[derive(Clone, Copy)]
 pub struct Measured {
-    /// The least fault, `None` where no rule was broken.
+    /// The least fault, or `None` if no rule is broken.
     pub worst: Option<Fault>,
-    /// The length; 0 where there is none.
+    /// The length, or 0 if there is no length.
     pub n: u64,
-    /// The count; 0 where there is none.
+    /// The count, or 0 if there is no count.
     pub k: u64,
-    /// The explicit address, where there is one.
+    /// The explicit address, if there is one.
     pub a: Option<u64>,
 }
 
 /// The part of a statement at a place.
 ///
-/// Places count from 0; behind the last of the ten parts the text is empty.
+/// Places count from 0; a place after the ten parts gives an empty text.
 pub fn part_at<'a>(s: &Statement<'a>, place: u8) -> &'a [u8]
     ensures { result.now ≡ part_at (statement_text s.now) place }
 {
@@ -52,7 +52,7 @@ pub fn part_at<'a>(s: &Statement<'a>, place: u8) -> &'a [u8]
     }
 }
 
-/// Whether the part at a place is empty: it holds nothing but blanks.
+/// Whether the part at a place is empty: it has only blanks.
 ///
 /// Places count from 0.
 pub fn lacks(s: &Statement<'_>, place: u8) -> bool
@@ -61,7 +61,7 @@ pub fn lacks(s: &Statement<'_>, place: u8) -> bool
     is_blank(part_at(s, place))
 }
 
-/// Whether a text holds nothing but blanks.
+/// Whether a text has only blanks.
 ///
 /// A blank is byte 32. A text without a byte is blank.
 pub fn is_blank(text: &[u8]) -> bool
@@ -70,7 +70,7 @@ pub fn is_blank(text: &[u8]) -> bool
     text.iter().all(|b| *b == b' ')
 }
 
-// The number that one or two digits are written for.
+// The number that one or two digits stand for; any other text breaks rule 11.
 fn short_value(text: &[u8]) -> Result<i64, Rule>
     ensures { result ≡ short_value text.now }
 {
@@ -80,7 +80,7 @@ fn short_value(text: &[u8]) -> Result<i64, Rule>
     }
 }
 
-// A part, read as it is asked for.
+// The value of a part, read as an expression or as two digits.
 fn read_as(reading: OperandReading, part: &[u8], scope: &Scope<'_>) -> Result<i64, Rule>
     ensures { result ≡ read_as reading (scope_now scope.now) part.now }
 {
@@ -97,10 +97,10 @@ fn is_even(v: i64) -> bool
     v.unsigned_abs() % 2 == 0
 }
 
-/// What an operand comes to whose value, or whose broken rule, was found.
+/// The answer for an operand whose value, or whose broken rule, is known.
 ///
-/// A value outside its range breaks the rule that is asked for. Whether it is odd is looked at only within the range. `worst` is the least
-/// fault of the statement so far, and comes back as the least with this operand.
+/// A value outside its range breaks the rule `over`. Only a value within the range is checked for being odd. `worst` is the least
+/// fault of the statement so far, and the `worst` of the answer includes this operand.
 #[tactic(auto, unfolding(crate::specs::Faults::least))]
 pub fn in_bounds(worst: Option<Fault>, q: Ask, found: Result<i64, Rule>) -> Answered
     ensures small { IsSmall q → size_of result.value ≤ 99999 }
@@ -133,10 +133,10 @@ pub fn in_bounds(worst: Option<Fault>, q: Ask, found: Result<i64, Rule>) -> Answ
     }
 }
 
-/// What an operand of a statement comes to: its value, or the least rule that it breaks.
+/// The answer for an operand of a statement: its value, or the least rule that it breaks.
 ///
-/// `scope` is what its part is worked out in. An empty part has no value, and breaks rule 6 where it is needed. `worst` is the least fault
-/// of the statement so far, and comes back as the least with this operand.
+/// Its part is evaluated in `scope`. An empty part has no value, and breaks rule 6 if it is needed. `worst` is the least fault of
+/// the statement so far, and the `worst` of the answer includes this operand.
 #[tactic(auto, unfolding(crate::specs::Measure::answer))]
 pub fn answer(worst: Option<Fault>, s: &Statement<'_>, q: Ask, scope: &Scope<'_>) -> Answered
     ensures small { IsSmall q → size_of result.value ≤ 99999 }
@@ -152,7 +152,7 @@ pub fn answer(worst: Option<Fault>, s: &Statement<'_>, q: Ask, scope: &Scope<'_>
     in_bounds(worst, q, read_as(q.reading, part_at(s, q.place), scope))
 }
 
-// The same of an operand that the declarative may not have.
+// The answer for an operand; it has no value and no fault if the declarative does not have the operand.
 #[tactic(auto, unfolding(crate::specs::Faults::least))]
 fn answer_if(worst: Option<Fault>, s: &Statement<'_>, q: Option<Ask>, scope: &Scope<'_>) -> Answered
     requires { ForSome q IsSmall }
@@ -186,7 +186,7 @@ fn natural_address(v: Option<i64>) -> Option<u64>
     }
 }
 
-// n and A are both empty where one must be there, or no comma stands before the text.
+// Whether n and A are both empty but one of them is needed, or a text has no comma before it.
 #[tactic(auto, using(crate::proofs::Least::least_append))]
 fn lacking_faults(worst: Option<Fault>, s: &Statement<'_>, f: Form) -> Option<Fault>
     ensures { result ≡ least worst (lacking_faults (statement_text s.now) f) }
@@ -199,10 +199,10 @@ fn lacking_faults(worst: Option<Fault>, s: &Statement<'_>, f: Form) -> Option<Fa
     broken_if(worst, f.text && s.count == 1, Rule::MissingOperand)
 }
 
-/// What the length, the count and the explicit address of a declarative come to, and the least rule that one of them breaks.
+/// The length, the count and the explicit address of a declarative, and the least rule that one of them breaks.
 ///
-/// `scope` is what their parts are worked out in. `worst` is the least fault of the statement so far, and comes back as the least with these
-/// operands.
+/// Their parts are evaluated in `scope`. `worst` is the least fault of the statement so far, and the `worst` of the result
+/// includes these operands.
 #[tactic(auto, unfolding(crate::specs::Measure::measure))]
 pub fn measure(worst: Option<Fault>, s: &Statement<'_>, f: Form, scope: &Scope<'_>) -> Measured
     requires { IsSmallForm f }

@@ -1,4 +1,4 @@
-// Where a statement puts its label and its digits, and where the next one begins.
+// Where a statement puts its label and its digits, and where the next statement begins.
 ghost use Rattle.std.specs.Prelude.{◌≡◌, ◌≤◌, ◌<◌, ◌+◌, ◌^◌, length, map};
 ghost use Rattle.sps_scan.specs.Statement.{statement_text, now_of};
 ghost use Rattle.sps_pass_one.specs.Measure.{size_or_0};
@@ -51,9 +51,9 @@ fn field_size(d: Declarative, n: u64, k: u64) -> u64
     }
 }
 
-/// How many positions of a declarative's field stand before the one that its label is the address of.
+/// How many positions of a declarative's field lie before the position that its label addresses.
 ///
-/// `n` is its length; for DSA it is 0 exactly where no address is listed.
+/// `n` is its length; for DSA `n` is 0 exactly if the DSA lists no address.
 /// Source: SPS manual, declarative operations; the exact labels of declaratives are this project's own.
 pub fn label_place(d: Declarative, n: u64) -> u64
     ensures is { result ≡ label_place d n }
@@ -75,7 +75,7 @@ pub fn label_place(d: Declarative, n: u64) -> u64
     }
 }
 
-// Whether the positions of its field are declared: their digits enter the image.
+// Whether a declarative declares the positions of its field: their digits enter the image.
 fn declares(d: Declarative) -> bool
     ensures { result ≡ declares d }
 {
@@ -97,21 +97,21 @@ fn declares(d: Declarative) -> bool
     }
 }
 
-// Whether its field begins at an even address.
+// Whether a declarative's field begins at an even address.
 fn begins_even(d: Declarative) -> bool
     ensures { result ≡ begins_even d }
 {
     matches!(d, Declarative::Das | Declarative::Dac)
 }
 
-// Whether it says where the next digits go.
+// Whether a declarative sets where the next digits go.
 fn moves_origin(d: Declarative) -> bool
     ensures { result ≡ moves_origin d }
 {
     matches!(d, Declarative::Dorg)
 }
 
-// The next even address, from an address on.
+// The first even address from an address on.
 fn even_up(at: u64) -> u64
     requires { at < 10 ^ 15 }
     ensures is { result ≡ even_up at }
@@ -120,7 +120,7 @@ fn even_up(at: u64) -> u64
     at + at % 2
 }
 
-// Nothing is put anywhere.
+// The placing of a statement that takes no digits.
 pub(crate) fn nothing_at(at: u64) -> Placing
     ensures { result ≡ nothing_at at }
 {
@@ -153,7 +153,7 @@ fn field_begin(d: Declarative, at: u64) -> u64
     if begins_even(d) { even_up(at) } else { at }
 }
 
-// Without an address the field is put at the location, which moves past it; with one the field lies round it.
+// Without an address the field lies at the location, which moves past it; with an address the field lies around that address.
 fn field_placing(d: Declarative, at: u64, n: u64, k: u64, a: Option<u64>) -> Placing
     requires at { at < 10 ^ 15 }
     requires n { n ≤ 99999 }
@@ -181,7 +181,7 @@ fn field_placing(d: Declarative, at: u64, n: u64, k: u64, a: Option<u64>) -> Pla
     }
 }
 
-// The length of a declarative, or the number of addresses that are listed.
+// The length of a declarative, or the number of addresses that a DSA lists.
 fn count_of(d: Declarative, s: &Statement<'_>, n: u64) -> u64
     requires { n ≤ 99999 }
     ensures is { result ≡ count_of d (statement_text s.now) n }
@@ -193,7 +193,7 @@ fn count_of(d: Declarative, s: &Statement<'_>, n: u64) -> u64
     }
 }
 
-// Where a declarative puts its field; one whose layout is broken takes no digits.
+// Where a declarative puts its field; a declarative whose layout is broken takes no digits.
 fn declarative_placing(
     d: Declarative,
     at: u64,
@@ -234,7 +234,7 @@ fn instruction_placing(at: u64) -> Placing
     }
 }
 
-// What a statement with an operation does at a location; with an unknown one it takes no digits.
+// The placing of a statement by its operation; with an unknown operation it takes no digits.
 pub(crate) fn placing_by(
     at: u64,
     head: Option<u8>,

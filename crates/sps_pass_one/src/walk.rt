@@ -6,7 +6,7 @@ use crate::looked_up::LookedUp;
 use outside_io::split_line;
 use std::marker::Model;
 
-/// A line of a source, as a walk comes to it.
+/// A line of a source, as a walk gives it.
 ///
 /// Source: this project's own.
 #[derive(Clone, Copy)]
@@ -18,12 +18,12 @@ pub struct SourceLine<'a> {
     ghost few: { number ≤ 20001 },
 }
 
-/// A walk over the lines of a source in their order, up to statement 20,001; what stands behind that one isn't looked at.
+/// A walk over the lines of a source in their order, up to statement 20,001; it ignores the lines after that statement.
 ///
-/// `next` gives a line. Who needs heads, or to know whether a statement counts, tells it by `pass` what the line was read as. The walk
-/// does not read lines itself: a statement is large, and so it isn't handed on.
+/// `next` gives a line. A caller that needs `head` or `ended` scans the line, and gives its statement to the walk by `pass`. The
+/// walk does not scan lines itself, since a statement is too large to hand on.
 ///
-/// Contracts see the number of the next line, the head in force, whether a DEND that counts was passed, and the lines that are left.
+/// Contracts see the number of the next line, the head in force, whether a DEND that counts was passed, and the lines left.
 /// Source: SPS manual, HEAD and DEND; how many statements are looked at is this project's own.
 #[derive(Drop)]
 pub struct Walk<'a> {
@@ -49,7 +49,7 @@ impl<'a> Walk<'a> {
     ghost use Rattle.sps_scan.specs.Statement.{statement_text};
     ghost use Rattle.sps_pass_one.specs.Walk.{walk_of, walk_past};
 
-    /// A walk that stands before the first line of a source; no head is in force there.
+    /// A walk before the first line of a source; no head is in force there.
     ///
     /// Source: SPS manual, HEAD.
     #[inline(always)]
@@ -64,7 +64,7 @@ impl<'a> Walk<'a> {
         }
     }
 
-    /// The number of the next line, also where none is left.
+    /// The number of the next line, also if no line is left.
     ///
     /// Source: this project's own.
     #[inline(always)]
@@ -74,7 +74,7 @@ impl<'a> Walk<'a> {
         self.number
     }
 
-    /// The head in force behind the statements that were passed.
+    /// The head in force after the statements that were passed.
     ///
     /// Source: SPS manual, HEAD.
     #[inline(always)]
@@ -94,7 +94,7 @@ impl<'a> Walk<'a> {
         self.ended
     }
 
-    /// Passes the statement that the line was read as to which the walk came last.
+    /// Passes the statement of the line that the walk gave last.
     ///
     /// Source: SPS manual, HEAD and DEND; which statements count is this project's own.
     #[inline(always)]
@@ -118,7 +118,7 @@ impl<'a> Iterator for Walk<'a> {
 
     ghost remaining = { λ w. at_most (length w.lines) };
 
-    /// The next line; `None` where none is left, or statement 20,001 was the last.
+    /// The next line, or `None` if no line is left or statement 20,001 was the last.
     ///
     /// Source: this project's own.
     #[inline(always)]

@@ -1,4 +1,4 @@
--- What a source comes to that breaks no rule.
+-- The result of assembling a source that breaks no rule.
 -- Source: SPS manual, assembling; which sources break no rule is this project's own.
 use Rattle.std.specs.Prelude.{ℕ, ℤ, Bool, true, false, ◌&&◌, List, [], ◌∷◌, map, Option, Some, nat_abs, if◌then◌else◌}
 use Rattle.digit_core.specs.declared.Digit.{Digit}
@@ -12,7 +12,7 @@ use Rattle.sps_pass_two.specs.Operands.{operand_ask, value_or_0}
 use Rattle.sps_pass_two.specs.Broken.{anywhere, begins_at, outcome_at}
 use Rattle.sps_pass_two.specs.Image.{DigitRun, run_with, pieces_of}
 
--- a statement as it is placed: the address that the listing shows, whether it is an instruction, and its digits
+-- a placed statement: the address that the listing shows, whether it is an instruction, and its digits
 pub record PlacedText : Type 0 where
   pub address : ℤ
   pub instruction : Bool
@@ -37,7 +37,7 @@ placed_text symbols positions x = record {
 abbrev pub statement_run : List SymbolEntry → ℕ → PassStep → DigitRun
 statement_run symbols positions x = run_with (begins_at (statement_place x) x.text) (outcome_at symbols positions x).digits
 
--- the start: what the operand of the first DEND comes to
+-- the start that a DEND gives: the value of its operand without the sign, or 0 if it has none
 abbrev pub start_of : List SymbolEntry → PassStep → ℕ
 start_of symbols x =
     nat_abs (value_or_0 (answer (anywhere x.before.head symbols (statement_place x).location) x.text (operand_ask 0)).value)

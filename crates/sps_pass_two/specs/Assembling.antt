@@ -1,4 +1,4 @@
--- What the second pass answers.
+-- The answer of the second pass.
 use Rattle.std.specs.Prelude.{ℕ, ◌+◌, ◌≡◌, ◌≤◌, ⊤, List, map, Some, None, option_map, Result, Ok, Err}
 use Rattle.std.specs.List.{All}
 use Rattle.sps_pass_one.specs.declared.fault.Fault.{Fault}
@@ -10,7 +10,7 @@ use Rattle.sps_pass_two.specs.Kept.{IsRunBelow}
 use Rattle.sps_pass_two.specs.Assembled.{assembled_text}
 use Rattle.sps_pass_two.specs.Making.{text_of_placed}
 
--- the source breaks no rule, and this is what it comes to
+-- the source breaks no rule, and this program results from it
 pub record IsAssembled (positions : ℕ) (source : List ℕ) (a : Assembled) : Type 0 where
   pub good : refusal_of positions source ≡ None
   pub pieces_are : a.image.pieces ≡ (assembled_text positions source).pieces
@@ -22,14 +22,14 @@ abbrev pub IsRefused : ℕ → List ℕ → ℕ → Fault → Type 0
 IsRefused positions source statement fault =
     option_map statement_and_fault (refusal_of positions source) ≡ Some (statement, fault)
 
--- the first broken statement with its least rule and the first part that breaks it, or what the source comes to, or no memory
+-- the program, or the first statement that breaks a rule with its least rule and the first part that breaks it, or no memory
 abbrev pub Assembles : ℕ → List ℕ → Result Assembled AsmFault → Type 0
 Assembles positions source (Ok a) = IsAssembled positions source a
 Assembles positions source (Err (fault.Broken statement rule part)) =
     IsRefused positions source statement (record { rule = rule; part = part })
 Assembles positions source (Err fault.Memory) = ⊤
 
--- the pieces lie within a core of so many positions, and so does an instruction at the start
+-- the pieces lie within a core with this number of positions, and so does an instruction at the start
 pub record LiesWithin (positions : ℕ) (a : Assembled) : Type 0 where
   pub pieces : All (IsRunBelow positions) a.image.pieces
   pub start : a.start + 12 ≤ positions

@@ -41,7 +41,7 @@ abbrev pub is_long : Shape → Bool
 is_long shape.Long = true
 is_long s = false
 
--- the rules that are looked at for every statement
+-- the rules that the assembler checks for every statement
 abbrev pub line_faults : Shape → Bool → ℕ → List Fault
 line_faults s ended number =
     broken_if (is_bad_column s) BadColumn
@@ -49,22 +49,22 @@ line_faults s ended number =
     ++ (broken_if (ended && is_card s) AfterEnd
     ++ broken_if (number == most_statements + 1) TooManyStatements))
 
--- what is found is a symbol of an earlier statement
+-- a symbol was found, and its statement is an earlier one
 abbrev pub is_earlier : ℕ → Option (ℤ × ℕ) → Bool
 is_earlier number None = false
 is_earlier number (Some found) = nat_lt found.1 number
 
--- a label that is none, and one that stands for a symbol for which an earlier statement's does
+-- the rules that a label breaks: it is invalid, or an earlier statement's label has its symbol
 abbrev pub label_faults : Option ℕ → List SymbolEntry → List ℕ → ℕ → List Fault
 label_faults head symbols name number =
     broken_if (not (is_nothing name) && not (is_label name)) BadLabel
     ++ broken_if (is_label name && is_earlier number (find (symbol_of head name) symbols)) DuplicateLabel
 
--- a name may stand for any symbol of the source, and `*` is an address
+-- a scope in which a name may be the name of any symbol of the source, and `*` is an address
 abbrev pub anywhere : Option ℕ → List SymbolEntry → ℤ → Scope
 anywhere head symbols here = scope_of head symbols here None
 
--- The constant of a DC or DSC. A length that is broken is 0, and then the digits are not counted.
+-- The constant of a DC or DSC. A length that breaks a rule is 0; then the digits are not counted.
 
 abbrev pub too_long : ℕ → List Digit → Bool
 too_long n ds = not (n == 0) && nat_lt n (length ds)
@@ -85,21 +85,21 @@ digits_or_none (Some ds) = ds
 abbrev pub constant_digits : ℕ → StatementText → List Digit
 constant_digits n s = with_leading_zeros n (digits_or_none (constant_of (part_at s 1)))
 
--- the constant of a DSC
+-- the rules and the digits of the constant of a DSC
 abbrev pub constant_outcome : ℕ → StatementText → StatementOutcome
 constant_outcome n s = record { faults = constant_faults n s; digits = constant_digits n s }
 
--- the digits of a DC have a flag at the first, where there are two or more
+-- the digits of a DC; the first has a flag if the length is 2 or more
 abbrev pub flagged_constant : ℕ → StatementText → List Digit
 flagged_constant n s = with_first_flag (nat_lt 1 n) (constant_digits n s)
 
--- the text of a DAC has a character that has no pair
+-- the text of a DAC has a character that the assembler does not allow
 abbrev pub text_faults : List ℕ → List Fault
 text_faults text = broken_at_if (not (all_allowed text)) BadConstant 1
 
 -- The start.
 
--- odd, below 00400, or so high that no instruction fits there
+-- the start is odd, below 00400, or so high that no instruction fits there
 abbrev pub is_bad_start : ℕ → Option ℤ → Bool
 is_bad_start positions None = false
 is_bad_start positions (Some v) =
@@ -114,11 +114,11 @@ start_faults scope s positions =
 abbrev pub faults_alone : List Fault → StatementOutcome
 faults_alone faults = record { faults = faults; digits = [] }
 
--- the same outcome, and faults before its own
+-- an outcome with more faults, before its own
 abbrev pub with_faults : List Fault → StatementOutcome → StatementOutcome
 with_faults faults o = record { faults = faults ++ o.faults; digits = o.digits }
 
--- THE RULES AND THE DIGITS of a declarative, beside those of its n, k and A, n being its length
+-- THE RULES AND THE DIGITS of a declarative, except the rules of its n, k and A; n is its length
 abbrev pub own_outcome : Declarative → Scope → StatementText → ℕ → ℕ → StatementOutcome
 own_outcome Ds scope s n positions = faults_alone []
 own_outcome Dss scope s n positions = faults_alone []
@@ -136,8 +136,8 @@ own_outcome Dorg scope s n positions = faults_alone []
 own_outcome Dend scope s n positions = faults_alone (start_faults scope s positions)
 own_outcome Head scope s n positions = faults_alone (head_faults s)
 
--- the operands of an operation on which the layout depends, and the others; `*` is the instruction's address, or the location before
--- a declarative
+-- the operands of a declarative on which the layout depends, and the others; `*` is the address of an instruction, or the
+-- location before a declarative
 abbrev pub measure_of : Option ℕ → List SymbolEntry → Place → ℕ → StatementText → Declarative → Measure
 measure_of head symbols place number s d = measure (scope_of head symbols place.location (Some number)) s (form_of d)
 
@@ -158,12 +158,12 @@ outcome_by_operation head symbols place number s positions (Some (Declare d)) =
 
 -- The image.
 
--- the address of a statement's first digit: as many positions before its label's as the table says
+-- the address of a statement's first digit: the declarative determines how many positions it lies before the label's address
 abbrev pub first_address : Option Operation → Place → ℕ
 first_address (Some (Declare d)) place = nat_abs place.label - label_place d place.digits
 first_address op place = nat_abs place.label
 
--- where a statement's digits begin
+-- the address of a statement's first digit, by its place and its text
 abbrev pub begins_at : Place → StatementText → ℕ
 begins_at place s = first_address (operation_of s) place
 
@@ -184,7 +184,7 @@ abbrev pub outcome_if : Bool → Option ℕ → List SymbolEntry → Place → �
 outcome_if active head symbols place number s positions =
     if active then counting_outcome head symbols place number s positions (operation_of s) else faults_alone []
 
--- ALL RULES THAT A STATEMENT BREAKS, and the digits that it declares where it breaks none
+-- ALL RULES THAT A STATEMENT BREAKS, and the digits that it declares if it breaks none
 unfoldable pub statement_outcome : Option ℕ → List SymbolEntry → Place → Bool → ℕ → StatementText → ℕ → StatementOutcome
 statement_outcome head symbols place ended number s positions =
     with_faults (line_faults s.shape ended number)
@@ -194,11 +194,11 @@ abbrev pub outcome_at : List SymbolEntry → ℕ → PassStep → StatementOutco
 outcome_at symbols positions x =
     statement_outcome x.before.head symbols (statement_place x) x.before.ended x.before.number x.text positions
 
--- the statement one past the last breaks a rule where no statement is a DEND
+-- the rule that the end of a source breaks, if no statement is a DEND
 abbrev pub end_faults : Bool → List Fault
 end_faults ended = broken_if (not ended) NoEnd
 
--- the rules that each statement breaks, and those of the one past the last
+-- the rules that each statement breaks, and then the rule that the end breaks, as if at the statement after the last
 abbrev pub all_faults : ℕ → List ℕ → List (List Fault)
 all_faults positions source =
     map (λ x. (outcome_at (symbols_of source) positions x).faults) (statements_of source)
@@ -208,6 +208,6 @@ all_faults positions source =
 abbrev pub refusal_of : ℕ → List ℕ → Option Refusal
 refusal_of positions source = first_refusal 1 (all_faults positions source)
 
--- a refusal in one line
+-- a refusal as a pair
 abbrev pub statement_and_fault : Refusal → ℕ × Fault
 statement_and_fault r = (r.statement, r.fault)

@@ -4,7 +4,7 @@ use Rattle.std.specs.Prelude.{ℕ, zero, suc, ◌+◌, ◌-◌, ◌&&◌, ◌==�
 use Rattle.digit_core.specs.declared.Digit.{Digit}
 use Rattle.digit_core.specs.Cell.{unflagged_digit}
 
--- digits from an address on: those that a statement declares, or a piece of the image
+-- digits from an address on: the digits that a statement declares, or a piece of the image
 pub record DigitRun : Type 0 where
   pub from : ℕ
   pub digits : List Digit
@@ -25,27 +25,27 @@ abbrev pub or_else : Option Digit → Option Digit → Option Digit
 or_else None other = other
 or_else (Some d) other = Some d
 
--- the digit that some runs have at an address: that of the last one that has any
+-- the digit that some runs have at an address: the last run with a digit there gives it
 unfoldable pub declared_digit : List DigitRun → ℕ → Option Digit
 declared_digit [] a = None
 declared_digit (r ∷ rs) a = or_else (declared_digit rs a) (digit_at r a)
 
--- what is declared at so many addresses from one on
+-- the digits that fields declare at n addresses from a on
 unfoldable pub cells_from : List DigitRun → ℕ → ℕ → List (Option Digit)
 cells_from fields a zero = []
 cells_from fields a (suc n) = declared_digit fields a ∷ cells_from fields (a + 1) n
 
--- a declared digit goes in front of the piece that begins behind it
+-- a declared digit goes in front of the piece that begins at the next address; otherwise it begins a piece
 abbrev pub onto_piece : ℕ → Digit → List DigitRun → List DigitRun
 onto_piece a d [] = run_with a (d ∷ []) ∷ []
 onto_piece a d (p ∷ ps) = if p.from == a + 1 then run_with a (d ∷ p.digits) ∷ ps else run_with a (d ∷ []) ∷ p ∷ ps
 
--- the maximal runs of declared addresses, rising, the first of the cells being at an address
+-- the maximal runs of declared addresses, rising; the first cell has address a
 unfoldable pub pieces_from : ℕ → List (Option Digit) → List DigitRun
 pieces_from a [] = []
 pieces_from a (None ∷ cells) = pieces_from (a + 1) cells
 pieces_from a (Some d ∷ cells) = onto_piece a d (pieces_from (a + 1) cells)
 
--- the pieces of a core of so many positions
+-- the pieces that fields declare in a core with this number of positions
 abbrev pub pieces_of : ℕ → List DigitRun → List DigitRun
 pieces_of positions fields = pieces_from 0 (cells_from fields 0 positions)

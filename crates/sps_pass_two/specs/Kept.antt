@@ -1,4 +1,4 @@
--- What an image keeps, and what a program without a broken rule keeps besides.
+-- The conditions that every image meets, and further conditions for a program that breaks no rule.
 use Rattle.std.specs.Prelude.{ℕ, ◌≡◌, ◌+◌, ◌-◌, ◌%◌, ◌≤◌, Bool, true, ◌&&◌, nat_le, nat_lt, List, [], ◌∷◌, length, slice_index_or, Option, None, IfSome, if◌then◌else◌}
 use Rattle.std.specs.List.{All}
 use Rattle.digit_core.specs.declared.Digit.{Digit}
@@ -6,7 +6,7 @@ use Rattle.digit_core.specs.Cell.{IsGood}
 use Rattle.sps_pass_two.specs.Image.{DigitRun, declared_digit, pieces_from}
 use Rattle.digit_core.specs.declared.TheConstants.{MOST_POSITIONS}
 
--- a piece is some good digits
+-- a piece has at least one digit, and all its digits are good
 pub record IsPiece (r : DigitRun) : Type 0 where
   pub some : 1 ≤ length r.digits
   pub good : All IsGood r.digits
@@ -56,16 +56,16 @@ digit_count (r ∷ rs) = length r.digits + digit_count rs
 
 -- THE LAWS of the pieces of an image
 
--- what cells from an address on declare at an address
+-- the digit that cells from a on declare at address b
 abbrev pub declared_in : ℕ → List (Option Digit) → ℕ → Option Digit
 declared_in a cells b = if nat_lt b a then None else slice_index_or cells (b - a) None
 
--- the pieces declare what the cells do, and between any two of them an address isn't declared
+-- the pieces declare the digits that the cells have, and between a piece and the next an address isn't declared
 pub record ArePieces (a : ℕ) (cells : List (Option Digit)) (ps : List DigitRun) : Type 0 where
   pub declares : (b : ℕ) → declared_digit ps b ≡ declared_in a cells b
   pub apart : are_apart ps ≡ true
 
--- and where the declared digits are good, so are the pieces; they rise, and lie where the cells do
+-- the pieces have good digits, end within the cells, and rise
 pub record AreKept (a : ℕ) (cells : List (Option Digit)) (ps : List DigitRun) : Type 0 where
   pub each : All IsPiece ps
   pub below : All (IsRunBelow (a + length cells)) ps

@@ -13,7 +13,7 @@ pub mod Making
 pub mod Made
 pub mod Assembling
 pub mod Tasks
--- what the crates above cite
+-- definitions that the crates above cite
 pub use Rattle.sps_pass_two.specs.Broken.{refusal_of}
 pub use Rattle.sps_pass_two.specs.Image.{DigitRun}
 pub use Rattle.sps_pass_two.specs.Kept.{IsRunBelow, IsImage, IsPiece, digit_count, lowest_declared}

@@ -1,4 +1,4 @@
--- What is made of a statement, and of one statement after another.
+-- The result of a statement, and of one statement after another.
 use Rattle.std.specs.Prelude.{ℕ, ◌≡◌, Bool, List, Option}
 use Rattle.digit_core.specs.declared.Digit.{Digit}
 use Rattle.sps_scan.specs.Statement.{StatementText}
@@ -15,17 +15,17 @@ use Rattle.sps_pass_two.specs.Broken.{begins_at}
 use Rattle.sps_pass_two.specs.Writing.{with_digits}
 use Rattle.sps_pass_two.specs.Making.{IsPlacedOn, start_after, placed_with}
 
--- an operand was answered: the least of its faults and one before them, and its value
+-- the answer for an operand: the least of an earlier fault and its own faults, and its value
 pub record IsAnswer (before : Option Fault) (a : OperandAnswer) (r : Answered) : Type 0 where
   pub worst : r.worst ≡ least before a.faults
   pub value : r.value ≡ a.value
 
--- what was made of a statement gives an outcome: the least of its faults and one before them, and its digits
+-- the result of a statement is an outcome: the least of an earlier fault and its own faults, and its digits
 pub record GivesOutcome (before : Option Fault) (o : StatementOutcome) (r : MadeOutcome) : Type 0 where
   pub worst : r.worst ≡ least before o.faults
   pub digits : r.digits.items ≡ o.digits
 
--- one statement more was made: it stands at a place, and has digits
+-- the result with one more statement, at a place and with digits
 pub record AddsMadeStatement (ended : Bool) (head : Option ℕ) (symbols : List SymbolEntry) (place : Place) (s : StatementText) (digits : List Digit)
     (old new : MadeSoFar) : Type 0 where
   pub cells : new.cells.items ≡ with_digits old.cells.items (begins_at place s) digits

@@ -1,4 +1,4 @@
--- The characters of a source among those of cards.
+-- The characters of cards that a source may have.
 -- Source: SPS manual, character set; that `]`, `}` and `|` are left out is this project's own.
 use Rattle.std.specs.Prelude.{◌≡◌, ℕ, Bool, not, ◌&&◌, ◌||◌, ◌==◌, map, filter, is_some}
 use Rattle.card_code.specs.Pairs.{pair_table, alpha_of}
@@ -8,7 +8,7 @@ use Rattle.sps_scan.specs.Statement.{source_characters, is_allowed}
 abbrev pub is_unfit : ℕ → Bool
 is_unfit b = (b == 93) || ((b == 125) || (b == 124))
 
--- a character is one of the assembler just if it has a pair of digits and is not one of these
+-- the assembler allows a character exactly if the character has a pair of digits and is not one of these three
 abbrev pub AllowedLaw : Type 0
 AllowedLaw = (b : ℕ) → is_allowed b ≡ (is_some (alpha_of b) && not (is_unfit b))
 

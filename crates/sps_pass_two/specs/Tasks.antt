@@ -1,4 +1,4 @@
--- What is made of the statement of a task.
+-- The outcome of the statement of a task.
 use Rattle.std.specs.Prelude.{ℕ, Bool}
 use Rattle.sps_ops.specs.declared.operation.Declarative.{Declarative}
 use Rattle.sps_scan.specs.Statement.{StatementText, statement_text}
@@ -8,31 +8,31 @@ use Rattle.sps_pass_two.specs.Operands.{StatementOutcome}
 use Rattle.sps_pass_two.specs.Broken.{anywhere, own_outcome, declared_outcome, outcome_by_operation, counting_outcome, outcome_if, statement_outcome}
 use Rattle.sps_pass_two.specs.Making.{start_value}
 
--- its statement
+-- the text of its statement
 abbrev pub text_in : Task → StatementText
 text_in t = statement_text t.statement.now.scanned.now
 
--- a declarative beside its n, k and A, n being its length
+-- the outcome of a declarative, except the rules of its n, k and A; n is its length
 abbrev pub own_outcome_in : Declarative → Task → ℕ → StatementOutcome
 own_outcome_in d t n = own_outcome d (anywhere t.head t.symbols.now t.place.location) (text_in t) n t.positions
 
--- a declarative
+-- the outcome of a declarative
 abbrev pub declared_outcome_in : Declarative → Task → StatementOutcome
 declared_outcome_in d t = declared_outcome t.head t.symbols.now t.place t.number (text_in t) t.positions d
 
--- any operation
+-- the outcome of any operation
 abbrev pub outcome_in : Task → StatementOutcome
 outcome_in t = outcome_by_operation t.head t.symbols.now t.place t.number (text_in t) t.positions (operation_of (text_in t))
 
--- a statement that counts
+-- the outcome of a statement that counts
 abbrev pub counting_outcome_in : Task → StatementOutcome
 counting_outcome_in t = counting_outcome t.head t.symbols.now t.place t.number (text_in t) t.positions (operation_of (text_in t))
 
--- a statement that counts, or that does not
+-- the outcome of a statement, if it is active; else no faults and no digits
 abbrev pub outcome_if_in : Bool → Task → StatementOutcome
 outcome_if_in active t = outcome_if active t.head t.symbols.now t.place t.number (text_in t) t.positions
 
--- any statement
+-- the outcome of any statement
 abbrev pub statement_outcome_in : Task → StatementOutcome
 statement_outcome_in t = statement_outcome t.head t.symbols.now t.place t.ended t.number (text_in t) t.positions
 

@@ -3,12 +3,12 @@ use Rattle.std.specs.Prelude.{ℕ, ◌+◌, ◌≡◌, List, [], ◌∷◌, repl
 use Rattle.digit_core.specs.declared.Digit.{Digit}
 use Rattle.sps_pass_two.specs.Image.{DigitRun, cells_from}
 
--- one digit behind another is written over what was there
+-- digits from an address on are written, one after another, over the earlier digits
 unfoldable pub with_digits : List (Option Digit) → ℕ → List Digit → List (Option Digit)
 with_digits image a [] = image
 with_digits image a (d ∷ ds) = with_digits (slice_set image a (Some d)) (a + 1) ds
 
--- the fields one after another
+-- fields are written one after another
 unfoldable pub with_fields : List (Option Digit) → List DigitRun → List (Option Digit)
 with_fields image [] = image
 with_fields image (f ∷ fs) = with_fields (with_digits image f.from f.digits) fs

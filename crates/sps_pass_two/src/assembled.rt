@@ -1,4 +1,4 @@
-// What a source comes to.
+// The result of assembling a source.
 // Source: this project's own.
 ghost use Rattle.std.specs.Prelude.{◌≡◌, ◌≤◌, length};
 ghost use Rattle.sps_pass_two.specs.Kept.{IsProgram};
@@ -11,7 +11,7 @@ use std::alloc::AllocError;
 use std::marker::Model;
 use thiserror::Error;
 
-/// A statement as it is placed.
+/// A placed statement of the source.
 #[derive(Drop)]
 pub struct Placed {
     /// The address that the listing shows; the location for a comment or a blank line.
@@ -53,13 +53,13 @@ impl PlacedList {
     }
 }
 
-/// What a source comes to that breaks no rule.
+/// The result of assembling a source that breaks no rule.
 ///
-/// No address below 00100 is declared, and the image's pieces lie apart. The start is even, 00400 to 59988. There are at most 20,000
-/// statements.
+/// No address below 00100 is declared, and the image has a gap between any two pieces. The start is even, 00400 to 59988. There
+/// are at most 20,000 statements.
 #[derive(Drop)]
 pub struct Assembled {
-    /// What the statements declare.
+    /// The digits that the statements declare.
     pub image: Image,
     /// The address of the first instruction that is executed.
     pub start: u32,

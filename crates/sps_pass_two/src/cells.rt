@@ -1,4 +1,4 @@
-// The cells of an image while it is made: written digit by digit, and read run by run.
+// The cells of an image while the assembler makes it: written digit by digit, and read run by run.
 ghost use Rattle.std.specs.Prelude.{◌≡◌, ◌+◌, ◌^◌, ◌≤◌, List, drop, length, slice_set, replicate, None, Some, IfOk};
 ghost use Rattle.sps_pass_two.specs.Image.{pieces_from};
 ghost use Rattle.sps_pass_two.specs.Kept.{PiecesLaw, KeptLaw};
@@ -9,7 +9,7 @@ use crate::image::{Digits, Piece, Pieces};
 use digit_core::Digit;
 use std::alloc::{AllocError, Global};
 
-// An image of so many positions in which nothing is declared.
+// The cells of an image before any digit is declared.
 pub(crate) fn empty_image(alloc: Global, positions: u32) -> Result<Vec<Option<Digit>>, AllocError>
     ensures { IfOk result (λ image. image.items ≡ replicate positions None) }
 {
@@ -21,7 +21,7 @@ pub(crate) fn empty_image(alloc: Global, positions: u32) -> Result<Vec<Option<Di
     Ok(image)
 }
 
-// Sets the digit of an address, where the image has it.
+// Sets the digit of an address, if the image has that address.
 #[tactic(auto, using(crate::proofs::Runs::set_past))]
 fn set_digit(image: &mut Vec<Option<Digit>>, a: usize, digit: Digit)
     ensures { image.new.items ≡ slice_set image.old.items a (Some digit) }
@@ -31,7 +31,7 @@ fn set_digit(image: &mut Vec<Option<Digit>>, a: usize, digit: Digit)
     }
 }
 
-// Writes digits from an address on, as far as the image goes.
+// Writes digits from an address on, up to the end of the image.
 pub(crate) fn write(image: &mut Vec<Option<Digit>>, from: usize, digits: &[Digit])
     requires { from ≤ 2 ^ 63 }
     ensures { image.new.items ≡ with_digits image.old.items from digits.now }
@@ -87,14 +87,14 @@ pub fn image_law()
     ensures { ImageLaw }
 {}
 
-/// The pieces of an image declare just what its cells do, and between a piece and the next there is an address that is not declared.
+/// The pieces of an image declare the digits that its cells have, and between a piece and the next an address is not declared.
 ///
 /// Source: this project's own.
 pub fn pieces_law()
     ensures { PiecesLaw }
 {}
 
-/// Where the cells hold good digits, so do the pieces of an image; none is empty, they rise, and they lie where the cells do.
+/// If the cells hold good digits, so do the pieces of an image. No piece is empty, and the pieces rise and end within the cells.
 ///
 /// Source: this project's own.
 pub fn kept_law()

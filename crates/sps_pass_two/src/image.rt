@@ -6,7 +6,7 @@ ghost use Rattle.sps_pass_two.specs.Kept.{IsImage, digit_count};
 use digit_core::Digit;
 use std::marker::Model;
 
-/// Digits, one behind another.
+/// Digits in their order.
 ///
 /// Contracts see the list of the digits.
 #[derive(Drop)]
@@ -80,9 +80,9 @@ impl Pieces {
     }
 }
 
-/// What a program declares, piece by piece.
+/// The digits that a program declares, piece by piece.
 ///
-/// The pieces rise and share no address, none is empty, all digits can stand in a cell, and all addresses are below 60,000.
+/// The pieces rise and share no address. No piece is empty, a cell can hold each digit, and all addresses are below 60,000.
 #[derive(Drop)]
 pub struct Image {
     /// The maximal runs of declared addresses, rising.

@@ -1,4 +1,4 @@
-// What is made of one statement after another: the cells, the start and the placed statements.
+// The result of one statement after another: the cells, the start and the placed statements.
 ghost use Rattle.std.specs.Prelude.{◌≡◌, ◌&&◌, not, [], replicate, None, IfOk, OnOk, if◌then◌else◌};
 ghost use Rattle.sps_scan.specs.Statement.{statement_text};
 ghost use Rattle.sps_pass_one.specs.Layout.{counts_if, operation_of};
@@ -20,18 +20,18 @@ use sps_ops::Operation;
 use sps_pass_one::{answer, counts_if, ends_if, operation_of};
 use std::alloc::{AllocError, Global};
 
-// What was made of the statements so far.
+// The result of the statements so far.
 #[derive(Drop)]
 pub(crate) struct MadeSoFar {
     // The digit of each address.
     pub(crate) cells: Vec<Option<Digit>>,
-    // What the first DEND gave as the start, or 0.
+    // The start that the first DEND gave, or 0.
     pub(crate) start: u32,
     // The statements.
     pub(crate) placed: Vec<Placed>,
 }
 
-// What is made of no statement, for a core of so many positions.
+// The result before the first statement, for a core with this number of positions.
 pub(crate) fn nothing_made(alloc: Global, positions: u32) -> Result<MadeSoFar, AllocError>
     ensures cells { IfOk result (λ made. made.cells.items ≡ replicate positions None) }
     ensures start { IfOk result (λ made. made.start ≡ 0) }
@@ -50,7 +50,7 @@ fn is_instruction(operation: Option<Operation>) -> bool
     matches!(operation, Some(Operation::Instruction { .. }))
 }
 
-// What the operand of a DEND comes to.
+// The start that a DEND gives: the value of its operand without the sign, or 0 if it has none.
 fn start_value_in(task: &Task<'_>) -> u32
     ensures { result ≡ start_value_in task.now }
 {
@@ -64,7 +64,7 @@ fn start_value_in(task: &Task<'_>) -> u32
     value_or_0(found.value).unsigned_abs() as u32
 }
 
-// The statement as it is placed.
+// The placed statement of a task.
 fn placed_with(task: &Task<'_>, digits: Vec<Digit>) -> Placed
     ensures address { result.address ≡ task.now.place.label }
     ensures instruction { result.instruction ≡ counts_as_instruction task.now.ended (text_in task.now) }
@@ -79,7 +79,7 @@ fn placed_with(task: &Task<'_>, digits: Vec<Digit>) -> Placed
 }
 
 impl MadeSoFar {
-    // One statement more, which stands at a place and breaks no rule.
+    // Adds a statement that breaks no rule, at its place.
     pub(crate) fn add(&mut self, task: &Task<'_>, digits: Vec<Digit>) -> Result<(), AllocError>
         ensures { OnOk result (AddsMadeStatement task.now.ended task.now.head task.now.symbols.now task.now.place
             (text_in task.now) digits.items self.old self.new) }

@@ -1,4 +1,4 @@
-// What a statement breaks and declares.
+// The rules that a statement breaks, and its digits.
 use digit_core::Digit;
 use sps_pass_one::Fault;
 

@@ -35,7 +35,7 @@ fn assembled(alloc: Global, made: MadeSoFar) -> Result<Assembled, AllocError>
     })
 }
 
-/// Assembles a source for a core of so many positions.
+/// Assembles a source for a core with `positions` positions.
 ///
 /// `positions` is 0 to 60,000. `Broken` is the first statement that breaks a rule, with the least rule that it breaks and the place of
 /// the first part that breaks it. It takes memory.

@@ -43,7 +43,7 @@ fn is_card(shape: Shape) -> bool
     !matches!(shape, Shape::Comment | Shape::Blank)
 }
 
-// The rules that are looked at for every statement.
+// The rules that the assembler checks for every statement.
 #[tactic(auto, using(sps_pass_one::proofs::Least::least_append))]
 fn line_faults(shape: Shape, ended: bool, number: u32) -> Option<Fault>
     ensures { result ≡ least None (line_faults shape ended number) }
@@ -55,7 +55,7 @@ fn line_faults(shape: Shape, ended: bool, number: u32) -> Option<Fault>
     broken_if(worst, is_too_many, Rule::TooManyStatements)
 }
 
-// What is found is a symbol of an earlier statement.
+// Whether a symbol was found, and its statement is an earlier one.
 fn is_earlier(number: u32, found: Option<(i64, u32)>) -> bool
     ensures { result ≡ is_earlier number found }
 {
@@ -65,7 +65,7 @@ fn is_earlier(number: u32, found: Option<(i64, u32)>) -> bool
     }
 }
 
-// A label that is none, and one that stands for a symbol for which an earlier statement's does.
+// The rules that a label breaks: it is invalid, or an earlier statement's label has its symbol.
 #[tactic(auto, using(sps_pass_one::proofs::Least::least_append))]
 fn label_faults(
     worst: Option<Fault>,
@@ -85,7 +85,7 @@ fn label_faults(
     )
 }
 
-// A constant that is none, or has more digits than its length; a length of 0 is a broken one, and then the digits are not counted.
+// The constant is invalid, or has more digits than its length. A length that breaks a rule is 0; then the digits are not counted.
 fn is_bad_constant(n: u64, found: &Option<Vec<Digit>>) -> bool
     ensures { result ≡ is_bad_constant n (option_map digit_list found.now) }
 {
@@ -117,7 +117,7 @@ fn constant_outcome(
     Ok(StatementOutcome { worst, digits })
 }
 
-// Odd, below 00400, or so high that no instruction fits there.
+// The start is odd, below 00400, or so high that no instruction fits there.
 fn is_bad_start(positions: u64, v: Option<i64>) -> bool
     requires { positions ≤ MOST_POSITIONS }
     ensures { result ≡ is_bad_start positions v }
@@ -131,7 +131,7 @@ fn is_bad_start(positions: u64, v: Option<i64>) -> bool
     }
 }
 
-// The start, the operand of a DEND.
+// The rules that the start, the operand of a DEND, breaks.
 fn start_faults(
     worst: Option<Fault>,
     s: &Statement<'_>,
@@ -160,7 +160,7 @@ fn faults_alone(alloc: Global, worst: Option<Fault>) -> StatementOutcome
     }
 }
 
-// The rules and the digits of a declarative, beside those of its n, k and A.
+// The rules and the digits of a declarative, except the rules of its n, k and A.
 #[tactic(auto, unfolding(sps_pass_one::specs::Faults::least))]
 fn own_outcome(
     alloc: Global,
@@ -271,7 +271,7 @@ fn outcome_of(
     }
 }
 
-/// The address of a statement's first digit: as many positions before its label's as the declarative says.
+/// The address of a statement's first digit: the declarative determines how many positions it lies before the label's address.
 pub(crate) fn first_address(operation: Option<Operation>, place: Place) -> u64
     ensures is { result ≡ first_address operation place }
     ensures small { result ≤ 2 ^ 63 }
@@ -330,7 +330,7 @@ fn outcome_if(
     }
 }
 
-/// The least rule that a statement breaks, or none, and the digits that it declares where it breaks none.
+/// The least rule that a statement breaks, if any, and the digits that it declares if it breaks none.
 #[tactic(auto, unfolding(crate::specs::Broken::statement_outcome))]
 pub(crate) fn statement_outcome(
     alloc: Global,

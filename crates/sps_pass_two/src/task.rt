@@ -1,19 +1,19 @@
-// What is known of a statement before its rules are looked at.
+// A statement with its context, before the assembler checks its rules.
 use sps_expr::Symbols;
 use sps_pass_one::{LookedUp, Place};
 
-/// A statement of the second pass, and what the rules that it breaks and the digits that it declares depend on.
+/// A statement of the second pass, with all that determines its digits and the rules that it breaks.
 ///
 /// Source: this project's own.
 #[derive(Clone, Copy)]
 pub(crate) struct Task<'s> {
     /// The statement with its operation.
     pub statement: &'s LookedUp<'s>,
-    /// Where it stands.
+    /// Its place.
     pub place: Place,
-    /// Its number, the first being 1.
+    /// Its number; the first statement has 1.
     pub number: u32,
-    /// Whether a DEND that counts stands before it.
+    /// Whether a DEND that counts is before it.
     pub ended: bool,
     /// The head in force.
     pub head: Option<u8>,

@@ -3,7 +3,7 @@ use Rattle.std.specs.Prelude.{ℕ, ◌&&◌, List, [], ◌∷◌, Option, Some, 
 use Rattle.std.specs.Char.{is_ascii_digit}
 pub use Rattle.line_words.specs.Decimals.{with_digit, decimal_number}
 
--- the number of one or two digits
+-- the number that one or two digits stand for; None for any other text
 abbrev pub short_number : List ℕ → Option ℕ
 short_number [] = None
 short_number (a ∷ []) = if is_ascii_digit a then Some (decimal_number (a ∷ [])) else None

@@ -10,7 +10,7 @@ use Rattle.line_words.specs.Blanks.{trimmed}
 use Rattle.sps_scan.specs.Columns.{columns, is_blank}
 use Rattle.sps_scan.specs.Operands.{OperandParts, operands_of, ten_parts}
 
--- a statement with its texts in place of slices
+-- a statement with texts instead of slices
 pub record StatementText : Type 0 where
   pub shape : Shape
   pub label : List ℕ
@@ -38,23 +38,23 @@ statement_text s = record {
 abbrev pub source_characters : List ℕ
 source_characters = codes " .)+$*-/,(=@ABCDEFGHIJKLMNOPQRSTUVWXYZ0123456789"
 
--- a character of the assembler
+-- the byte is a character of the assembler
 unfoldable pub is_allowed : ℕ → Bool
 is_allowed b = list_any (λ c. c == b) source_characters
 
--- each character is one of the assembler
+-- each byte of a text is a character of the assembler
 abbrev pub all_allowed : List ℕ → Bool
 all_allowed text = list_all is_allowed text
 
--- each character of each part is
+-- each byte of each part is a character of the assembler
 abbrev pub parts_allowed : List (List ℕ) → Bool
 parts_allowed parts = list_all all_allowed parts
 
--- a `*` stands in column 6
+-- the line has a `*` in column 6
 abbrev pub is_comment : List ℕ → Bool
 is_comment line = slice_index_or line 5 0 == 42
 
--- of columns 6 to 15 and the parts
+-- the shape of a line with an operation, from columns 6 to 15 and the parts
 abbrev pub shape_of : List ℕ → List (List ℕ) → Shape
 shape_of front parts = if all_allowed front && parts_allowed parts then Plain else BadColumn
 
@@ -75,7 +75,7 @@ without_parts shape = record {
   remark = [];
 }
 
--- a line with an operation
+-- the statement of a line with an operation and these operands
 abbrev pub with_operands : List ℕ → OperandParts → StatementText
 with_operands line o = record {
   shape = shape_of (columns 6 15 line) o.parts;
@@ -86,7 +86,7 @@ with_operands line o = record {
   remark = o.remark;
 }
 
--- a line that is neither long, nor a comment, nor blank: the operation says into how many parts the operands are parted
+-- the statement of a line that is not long, a comment or blank: the operation sets the greatest number of parts
 abbrev pub with_operation : List ℕ → StatementText
 with_operation line = with_operands line (operands_of (trimmed (columns 12 15 line)) (columns 16 75 line))
 

@@ -2,7 +2,7 @@
 ghost use Rattle.std.specs.Prelude.{◌≡◌};
 ghost use Rattle.sps_scan.specs.Statement.{is_allowed};
 
-/// The special characters of the assembler, those that are no letter, no digit and no blank, each behind a blank: as a message tells them.
+/// The special characters of the assembler, each after a blank, as a message lists them. They are not letters, digits or blanks.
 ///
 /// Source: SPS manual, coding sheet; their order, that of their pairs of digits, is this project's own.
 pub const SPECIALS: &str = " . ) + $ * - / , ( = @";
@@ -24,7 +24,7 @@ const ALLOWED: [bool; 256] = [
     // `P` to `_`.
     true, true, true, true, true, true, true, true, true, true, true, false, false, false, false,
     false,
-    // What is behind them.
+    // The bytes after `_`.
     false, false, false, false, false, false, false, false, false, false, false, false, false,
     false, false, false, false, false, false, false, false, false, false, false, false, false,
     false, false, false, false, false, false, false, false, false, false, false, false, false,

@@ -14,14 +14,14 @@ pub(crate) fn columns<'a>(from: usize, to: usize, line: &'a [u8]) -> &'a [u8]
     &line[start..end]
 }
 
-// Whether the text has no byte but blanks.
+// Whether a text has only blanks.
 pub(crate) fn is_blank(text: &[u8]) -> bool
     ensures { result ≡ is_blank text.now }
 {
     text.iter().all(|b| *b == b' ')
 }
 
-// The text before the first comma, and what is behind that comma where there is one.
+// The text before the first comma, and the text after that comma, or `None` without a comma.
 pub(crate) fn split_comma<'a>(text: &'a [u8]) -> (&'a [u8], Option<&'a [u8]>)
     ensures before { result.0.now ≡ before_comma text.now }
     ensures behind { IfSome result.1 (λ behind. behind.now ≡ after_comma text.now) }

@@ -1,7 +1,7 @@
 //! Statements: the lines of a source deck, by the columns of the coding sheet.
 //!
-//! Columns 6 to 11 of a line are its label, columns 12 to 15 its operation, and columns 16 to 75 its operands, parted by commas, and its
-//! remark. Columns 1 to 5 and 76 to 80 are free. A statement copies nothing: its texts are slices of the line.
+//! Columns 6 to 11 of a line are its label, columns 12 to 15 its operation, and columns 16 to 75 its operands, separated by commas,
+//! and its remark. Columns 1 to 5 and 76 to 80 are free. A statement copies nothing: its texts are slices of the line.
 #![tactic(auto)]
 
 ghost use Rattle.std.specs.Prelude.{◌≡◌, [], ◌∷◌};
@@ -20,12 +20,13 @@ use operands::operands_of;
 pub use operands::{most_parts, short_number};
 pub use statement::{Shape, Statement};
 
-/// The statement of a line. It never refuses: what is wrong with a line is told by its shape alone.
+/// The statement of a line. The function accepts any line: only the statement's shape shows an error in the line.
 ///
-/// The operands are parted by commas, into as many parts as the operation may have: 10 for DSA, 4 for DDA, 2 for DS, DSS, DAS and DNB,
-/// 1 for DGM, DORG and DEND, and 3 for any other operation, known or not. The second part of a DAC is the text of as many columns as its
-/// first part says, commas and blanks included; where the first part is not one or two digits, the second is empty and the rest is the
-/// remark. Label, operation, parts and remark stand in the line in this order; between the parts there is nothing but commas.
+/// Commas divide the operands into at most as many parts as the operation may have: 10 for DSA, 4 for DDA, 2 for DS, DSS, DAS and
+/// DNB, 1 for DGM, DORG and DEND, and 3 for any other operation, known or not. The first part of a DAC gives the number of
+/// columns of its second part, a text that may have commas and blanks. If the first part is not one or two digits, the second is
+/// empty and the rest is the remark. Label, operation, parts and remark are in the line in this order; between the parts there
+/// are only commas.
 /// Source: SPS manual, coding sheet; the parting of operands and remark is this project's own.
 #[tactic(auto, unfolding(crate::specs::Statement::statement_of))]
 pub fn scan<'a>(card: &'a [u8]) -> Statement<'a>
@@ -46,7 +47,7 @@ pub fn scan<'a>(card: &'a [u8]) -> Statement<'a>
 
 /// Whether a line holds no statement: it is a comment or blank.
 ///
-/// It is what the shape of its statement says, without the parting of its operands.
+/// The answer agrees with the shape of the line's statement, but the function does not divide the operands into parts.
 /// Source: SPS manual, coding sheet.
 pub fn holds_nothing(card: &[u8]) -> bool
     ensures { result ≡ holds_nothing (statement_of card.now).shape }
@@ -94,7 +95,8 @@ fn with_parts<'a>(card: &'a [u8]) -> Statement<'a>
     }
 }
 
-// Whether columns 6 to 15, and the operands in front of the remark, have no other characters than those of the assembler. A comma is one.
+// The shape of a line with an operation: plain if columns 6 to 15 and the operands before the remark, with their commas, have
+// only characters of the assembler.
 fn shape_of(columns: &[u8], operands: &[u8]) -> Shape
     ensures { result ≡ shape_of columns.now (operands.now ∷ []) }
 {

@@ -1,4 +1,4 @@
-// Operands, parted by commas, and the remark behind them.
+// Operands, divided into parts by commas, and the remark after them.
 ghost use Rattle.std.specs.Prelude.{◌≡◌, ◌≤◌, length, map};
 ghost use Rattle.sps_scan.specs.Columns.{before_comma, after_comma};
 ghost use Rattle.sps_scan.specs.Numbers.{short_number};
@@ -9,7 +9,7 @@ ghost use Rattle.line_words.specs.Blanks.{trimmed};
 use crate::columns::split_comma;
 use line_words::{find, trimmed};
 
-// The operations whose operands have another number of parts than three, each with the greatest number.
+// The operations whose greatest number of parts is not three, each with this number.
 static PART_COUNTS: [(&str, usize); 9] = [
     ("DS", 2),
     ("DSS", 2),
@@ -22,7 +22,7 @@ static PART_COUNTS: [(&str, usize); 9] = [
     ("DEND", 1),
 ];
 
-// The parts of the operands, the number of parts that there are, and the remark.
+// The parts of the operands, the number of parts, and the remark.
 #[derive(Clone, Copy)]
 pub(crate) struct OperandParts<'a> {
     pub(crate) parts: [&'a [u8]; 10],
@@ -39,7 +39,7 @@ pub(crate) fn operands_of<'a>(operation: &[u8], text: &'a [u8]) -> OperandParts<
     ensures remark { result.remark.now ≡ (operands_of (trimmed operation.now) text.now).remark }
 {
     match operation {
-        // Only names that begin with a D have a text, or another number of parts than three.
+        // Only names that begin with a D have a text, or a greatest number of parts other than three.
         [first, ..] if *first != b'D' && *first != b' ' => parted(3, text),
         _ => named_operands(trimmed(operation), text),
     }
@@ -71,7 +71,7 @@ pub fn most_parts(name: &[u8]) -> usize
     find(&PART_COUNTS, name).unwrap_or(3)
 }
 
-// At most so many parts, each ended by a comma or by the end of the text.
+// At most `most` parts, each up to a comma or to the end of the text, and the remark after them.
 fn parted<'a>(most: usize, text: &'a [u8]) -> OperandParts<'a>
     requires some { 1 ≤ most }
     requires ten { most ≤ 10 }
@@ -152,9 +152,9 @@ fn dac_operands<'a>(text: &'a [u8]) -> OperandParts<'a>
     }
 }
 
-/// The number that a text of one or two digits is written for; `None` for any other text.
+/// The number that one or two digits stand for; `None` for any other text.
 ///
-/// It is how the first part of a DAC is read.
+/// The assembler reads the first part of a DAC with it.
 /// Source: this project's own.
 pub fn short_number(text: &[u8]) -> Option<u8>
     ensures { result ≡ short_number text.now }
@@ -168,7 +168,7 @@ pub fn short_number(text: &[u8]) -> Option<u8>
     }
 }
 
-// The text before the first comma, and what is behind it; nothing where there is none.
+// The text before the first comma, and the text after that comma, or nothing without a comma.
 fn last_part<'a>(text: &'a [u8]) -> (&'a [u8], &'a [u8])
     ensures part { result.0.now ≡ before_comma text.now }
     ensures behind { result.1.now ≡ after_comma text.now }

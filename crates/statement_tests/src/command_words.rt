@@ -1,4 +1,4 @@
-// Which words are plain, and what they say.
+// Plain words of the command line, and their settings.
 use command_line::{Command, CoreSize, Read, plain_words};
 use deck_punch::DeckForm;
 use outside_io::Unit;
@@ -105,7 +105,7 @@ fn a_core_has_the_size_of_the_words(rt: HostRuntime) -> Result<(), Fail> {
     Ok(())
 }
 
-// Each is refused for one thing alone.
+// Each row breaks the grammar in one way only.
 const OTHERS: [&[&str]; 35] = [
     &["load", "--deck", "a", "--core", "30000"],
     &["load", "--deck", "a", "--core", "020000"],

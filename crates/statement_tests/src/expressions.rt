@@ -3,7 +3,7 @@ use sps_expr::{Scope, Symbols, value};
 use sps_ops::Rule;
 use std::alloc::{AllocError, Global};
 
-// Symbols with their values and statements. HUGE is over the bound, as a label behind a long enough field can be.
+// Symbols with their values and statements. HUGE is over the bound, as a label after a long enough field can be.
 const SYMBOLS: [(&str, i64, u32); 7] = [
     ("ZERO", 0, 1),
     ("BIG", 9_999_999_999, 2),
@@ -22,7 +22,7 @@ fn define_all(alloc: Global, symbols: &mut Symbols) -> Result<(), AllocError> {
     Ok(())
 }
 
-// Whether a part comes to this at a location, among these symbols, where names must be labels of statements earlier than `before`.
+// Whether a part gives this value or rule at a location, with these symbols, if names must be labels of statements before `before`.
 fn comes_to(
     alloc: Global,
     part: &str,
@@ -47,7 +47,7 @@ const NUMBERS: [(&str, i64); 7] = [
     ("0009999999999", 9_999_999_999),
 ];
 
-// Blanks count nowhere. A run with a letter in it is a name.
+// Blanks never count. A run with a letter in it is a name.
 const BLANKS_AND_NAMES: [(&str, i64); 10] = [
     ("1 2", 12),
     ("  1  ", 1),
@@ -126,7 +126,7 @@ const LARGE: [(&str, i64); 18] = [
     ("A-99999*99999", -9_999_799_501),
 ];
 
-// At location 402 and without an earlier statement.
+// At location 402, with labels of any statement.
 #[test]
 fn expressions_and_their_values(rt: HostRuntime) {
     let tables: [&[(&str, i64)]; 6] = [
@@ -144,13 +144,13 @@ fn expressions_and_their_values(rt: HostRuntime) {
     }
 }
 
-// Signs and operators that stand alone, or side by side.
+// Signs and operators alone, or next to each other.
 const NO_FACTOR: [&str; 16] = [
     "", "   ", "+", "-", "+ ", "+-1", "--1", "1+", "1-", "1*", "1++2", "1+-2", "A--1", "2*+3",
     "1*-1", "Q1+",
 ];
 
-// A `*` that is no factor, or one too many.
+// A `*` that is not a factor, or one `*` too many.
 const STARS: [&str; 9] = ["*A", "A*", "*1", "**", "****", "2***", "* 1", "*A*", "*(*"];
 
 const OTHER_CHARACTERS: [&str; 11] = [
@@ -167,13 +167,13 @@ const OTHER_CHARACTERS: [&str; 11] = [
     "Q1+10000000000)",
 ];
 
-// A `$` without a name behind it, with more than one character before it, or one too many; a name of six characters behind it.
+// A `$` without a name after it, with more than one character before it, or one `$` too many; a name of six characters after it.
 const DOLLARS: [&str; 14] = [
     "$", "$$", "A$", "1$", "$5", "A$5", "A$ ", "AB$A", "12$A", "$$A", "A$$A", "A$A$A", "$ABCDEF",
     "X$ABCDEF",
 ];
 
-// Names of seven characters, also with a digit in front, with a blank inside, or beside a number that is too large.
+// Names of seven characters, also with a digit in front, with a blank inside, or next to a number that is too large.
 const LONG_NAMES: [&str; 7] = [
     "ABCDEFG",
     "1ABCDEF",
@@ -184,7 +184,7 @@ const LONG_NAMES: [&str; 7] = [
     "10000000000*ABCDEFG",
 ];
 
-// There too.
+// Also at location 402.
 #[test]
 fn parts_that_are_no_expression(rt: HostRuntime) {
     let tables: [&[&str]; 5] = [&NO_FACTOR, &STARS, &OTHER_CHARACTERS, &DOLLARS, &LONG_NAMES];
@@ -205,7 +205,7 @@ const HEADED: [(&str, i64, u32); 5] = [
     ("ABCDEF", 7, 5),
 ];
 
-// Whether a part comes to this under a head, among these symbols.
+// Whether a part gives this value or rule under a head, with these symbols.
 fn comes_to_under(alloc: Global, head: Option<u8>, part: &str, want: Result<i64, Rule>) -> bool {
     let mut symbols = Symbols::new(alloc);
     for &(name, value, statement) in &HEADED {
@@ -222,7 +222,7 @@ fn comes_to_under(alloc: Global, head: Option<u8>, part: &str, want: Result<i64,
     scope.value(part.as_bytes()) == want
 }
 
-// What comes of parts under a head, in statement 5, whose own label is ABCDEF.
+// Parts under a head, with their value or rule, in statement 5, whose own label is ABCDEF.
 const UNDER_HEADS: [(Option<u8>, &str, Result<i64, Rule>); 18] = [
     (None, "A", Ok(500)),
     (None, "$A", Ok(500)),
@@ -251,7 +251,7 @@ fn names_under_heads(rt: HostRuntime) {
     }
 }
 
-// Names that are not there, also beside values that are too large.
+// Undefined names, also next to values that are too large.
 const UNDEFINED: [&str; 10] = [
     "Q1",
     "Q 1",
@@ -279,7 +279,7 @@ const LARGE_FACTORS: [&str; 10] = [
     "HUGE-HUGE",
 ];
 
-// Products and sums over the bound, whatever is done with them: 3 times 4,000,000,000 is 12,000,000,000 before anything is taken from it.
+// Products and sums over the bound, whatever follows: 3 times 4,000,000,000 is 12,000,000,000 before the subtraction.
 const LARGE_RESULTS: [&str; 13] = [
     "9999999999+1",
     "-9999999999-1",
@@ -296,7 +296,7 @@ const LARGE_RESULTS: [&str; 13] = [
     "9999999999*9999999999*9999999999*0",
 ];
 
-// There too.
+// Also at location 402.
 #[test]
 fn undefined_names_and_values_that_are_too_large(rt: HostRuntime) {
     let tables: [(&[&str], Rule); 3] = [
@@ -311,7 +311,7 @@ fn undefined_names_and_values_that_are_too_large(rt: HostRuntime) {
     }
 }
 
-// What comes of parts where names must be labels of earlier statements than this one. A is that of 3, ABCDEF that of 5.
+// Parts with their value or rule, if names must be labels of statements before this one. A is the label of 3, ABCDEF of 5.
 const BEFORE: [(&str, u32, Result<i64, Rule>); 17] = [
     ("A", 4, Ok(500)),
     ("A", 3, Err(Rule::LateSymbol)),
@@ -345,7 +345,7 @@ fn names_of_earlier_statements(rt: HostRuntime) {
     }
 }
 
-// Locations at the bound and over it, which matter only where the location is used.
+// Locations at the bound and over it, which matter only if the part uses the location.
 const LOCATIONS: [(i64, &str, Result<i64, Rule>); 12] = [
     (9_999_999_999, "*", Ok(9_999_999_999)),
     (9_999_999_999, "*+1", Err(Rule::ValueTooLarge)),
@@ -371,7 +371,7 @@ fn locations_over_the_bound(rt: HostRuntime) {
     }
 }
 
-// Whether each of these names has this value and this statement, or is none.
+// Whether each of these names has this value and this statement, or is undefined.
 fn finds(symbols: &Symbols, rows: &[(&[u8], Option<(i64, u32)>)]) -> bool {
     for &(name, want) in rows {
         if symbols.find(name) != want {
@@ -381,7 +381,7 @@ fn finds(symbols: &Symbols, rows: &[(&[u8], Option<(i64, u32)>)]) -> bool {
     true
 }
 
-// Whether each of these names is added with its value and its statement exactly where it is said to be new.
+// Whether each of these names is added with its value and its statement exactly if its row says that it is new.
 fn adds(alloc: Global, symbols: &mut Symbols, rows: &[(&[u8], i64, u32, bool)]) -> bool {
     for &(name, value, statement, is_new) in rows {
         if symbols.define(alloc, name, value, statement) != Ok(is_new) {
@@ -391,7 +391,7 @@ fn adds(alloc: Global, symbols: &mut Symbols, rows: &[(&[u8], i64, u32, bool)]) 
     true
 }
 
-// Whether A is none at first, these names are added so, and then these are found.
+// Whether A is undefined at first, these names are added, and then these are found.
 fn keeps(
     alloc: Global,
     added: &[(&[u8], i64, u32, bool)],
@@ -433,12 +433,12 @@ fn numbered(alloc: Global, number: u32) -> Result<String, AllocError> {
     format!(in alloc; "N{number:03}")
 }
 
-// 617 has no divisor in common with 1,000, so the numbers of 1,000 steps are all below it, each once.
+// 617 has no divisor in common with 1,000, so 1,000 steps give all numbers below 1,000, each once.
 fn number_of(step: u32) -> u32 {
     step % 1_000 * 617 % 1_000
 }
 
-// Whether the name of a step is added as a new one.
+// Whether the name of a step is added as a new name.
 fn adds_step(alloc: Global, symbols: &mut Symbols, step: u32) -> bool {
     let number = number_of(step);
     match numbered(alloc, number) {
@@ -478,7 +478,7 @@ fn adds_a_thousand(alloc: Global, symbols: &mut Symbols) -> bool {
     true
 }
 
-// Whether a thousand names are kept, and these names are none.
+// Whether a thousand names are kept, and these names are undefined.
 fn keeps_a_thousand(alloc: Global, absent: &[(&[u8], Option<(i64, u32)>)]) -> bool {
     let mut symbols = Symbols::new(alloc);
     adds_a_thousand(alloc, &mut symbols) && finds(&symbols, absent)

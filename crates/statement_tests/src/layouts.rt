@@ -4,14 +4,14 @@ use sps_pass_one::{Layout, LookedUp, Places, Walk, counts_if, lay_out, locate};
 use sps_scan::scan;
 use std::alloc::{AllocError, Global};
 
-// What comes of a source.
+// The layout of a source.
 #[derive(Clone, Copy)]
 struct Laid<'a> {
-    // How many statements are looked at.
+    // How many statements are laid out.
     statements: usize,
-    // Statements, counted from 1: where each stands, what its label is worth, and how many digits it declares.
+    // Statements, counted from 1, each with its location, the value of its label, and how many digits it declares.
     places: &'a [(usize, (i64, i64, i64))],
-    // Labels, each with its value and its statement; None where it is none.
+    // Labels, each with its value and its statement; None if it is undefined.
     labels: &'a [(&'static str, Option<(i64, u32)>)],
     // The first statement whose layout is broken, with its rule.
     broken: Option<(u32, Rule)>,
@@ -25,7 +25,7 @@ fn add_line(source: &mut Vec<u8>, line: &str) -> Result<(), AllocError> {
     Ok(())
 }
 
-// The source of lines that are written so.
+// The source of lines from column 6 on.
 fn source_of(alloc: Global, lines: &[&str]) -> Result<Vec<u8>, AllocError> {
     let mut source = Vec::new(alloc);
     for line in lines {
@@ -34,13 +34,13 @@ fn source_of(alloc: Global, lines: &[&str]) -> Result<Vec<u8>, AllocError> {
     Ok(source)
 }
 
-// Where a statement stands, what its label is worth, and how many digits it declares; None where there is no such statement.
+// The location of a statement, the value of its label, and how many digits it declares; None if the statement does not exist.
 fn shown(layout: &Layout, statement: usize) -> Option<(i64, i64, i64)> {
     let place = layout.places.as_slice().get(statement.checked_sub(1)?)?;
     Some((place.location, place.label, i64::from(place.digits)))
 }
 
-// Whether a layout is this one.
+// Whether a layout is as wanted.
 fn is_laid(layout: &Layout, want: &Laid<'_>) -> bool {
     for &(statement, place) in want.places {
         if shown(layout, statement) != Some(place) {
@@ -55,7 +55,7 @@ fn is_laid(layout: &Layout, want: &Laid<'_>) -> bool {
     layout.places.as_slice().len() == want.statements && layout.broken == want.broken
 }
 
-// Whether a source is laid out so.
+// Whether a source has this layout.
 fn lays_source(alloc: Global, source: &[u8], want: &Laid<'_>) -> bool {
     match lay_out(alloc, source) {
         Ok(layout) => is_laid(&layout, want),
@@ -63,7 +63,7 @@ fn lays_source(alloc: Global, source: &[u8], want: &Laid<'_>) -> bool {
     }
 }
 
-// Whether lines that are written from column 6 on are laid out so.
+// Whether lines that are written from column 6 on have this layout.
 fn lays(alloc: Global, lines: &[&str], want: &Laid<'_>) -> bool {
     match source_of(alloc, lines) {
         Ok(source) => lays_source(alloc, source.as_slice(), want),
@@ -71,7 +71,7 @@ fn lays(alloc: Global, lines: &[&str], want: &Laid<'_>) -> bool {
     }
 }
 
-// Whether the places of an empty vector are none.
+// Whether an empty vector has no places.
 fn has_no_places(alloc: Global) -> bool {
     Places::from_vec(Vec::new(alloc)).as_slice().is_empty()
 }
@@ -100,7 +100,7 @@ fn locations_go_far_past_core(rt: HostRuntime) {
     assert!(rt; has_no_places(rt.alloc()));
 }
 
-// A statement X, the value of X, the digits that it declares, and the location behind it.
+// A statement X, the value of X, the digits that it declares, and the location after it.
 type Row = (&'static str, i64, i64, i64);
 
 const FROM_500: [Row; 17] = [
@@ -149,7 +149,7 @@ const WITH_ADDRESS: [Row; 11] = [
     ("X     DS  5,*+1", 501, 0, 500),
 ];
 
-// Whether a statement X is laid out so behind a DORG that lets it stand at `at`.
+// Whether a statement X has this layout after a DORG that sets the location to `at`.
 fn stands(alloc: Global, at: i64, origin: &'static str, (line, x, digits, next): Row) -> bool {
     let labels = [("X", Some((x, 2)))];
     let want = Laid {
@@ -174,7 +174,7 @@ fn fields_and_labels_of_each_declarative(rt: HostRuntime) {
     }
 }
 
-// Y is the label of the statement behind, and Q1 is none.
+// Y is the label of the next statement, and Q1 is undefined.
 const BROKEN: [(&str, Rule); 19] = [
     ("X     ZZ", Rule::UnknownOperation),
     ("X     DS", Rule::MissingOperand),
@@ -197,7 +197,7 @@ const BROKEN: [(&str, Rule); 19] = [
     ("X     DAC 5,HELLO,600", Rule::EvenAddress),
 ];
 
-// Whether a statement X at 501 breaks this rule, takes no digits, and leaves its label and the next statement the location before it.
+// Whether a statement X at 501 breaks this rule, takes no digits, and gives its label and the next statement its own location.
 fn breaks(alloc: Global, line: &str, rule: Rule) -> bool {
     let want = Laid {
         statements: 3,
@@ -215,7 +215,7 @@ fn a_broken_layout_takes_nothing(rt: HostRuntime) {
     }
 }
 
-// Six blank statements stand before the unknown operation, which is statement 10.
+// Six blank statements come before the unknown operation, which is statement 10.
 #[test]
 fn an_undefined_symbol_in_an_instruction_breaks_no_layout(rt: HostRuntime) {
     let lines = [
@@ -283,7 +283,7 @@ fn long_source(alloc: Global) -> Result<Vec<u8>, AllocError> {
     Ok(source)
 }
 
-// Whether so many statements of a source are located.
+// Whether this number of statements of a source are located.
 fn locates(alloc: Global, source: &[u8], statements: usize) -> bool {
     match locate(alloc, source) {
         Ok(located) => located.places.as_slice().len() == statements,
@@ -291,7 +291,7 @@ fn locates(alloc: Global, source: &[u8], statements: usize) -> bool {
     }
 }
 
-// Whether the long source is located and laid out so.
+// Whether the long source has this number of statements and this layout.
 fn lays_long(alloc: Global, want: &Laid<'_>) -> bool {
     match long_source(alloc) {
         Ok(source) => {
@@ -302,7 +302,7 @@ fn lays_long(alloc: Global, want: &Laid<'_>) -> bool {
     }
 }
 
-// Of 20,002 lines one is not looked at.
+// Of 20,002 lines the last is ignored.
 #[test]
 fn a_long_source_is_looked_at_up_to_statement_20001(rt: HostRuntime) {
     let want = Laid {
@@ -314,10 +314,10 @@ fn a_long_source_is_looked_at_up_to_statement_20001(rt: HostRuntime) {
     assert!(rt; lays_long(rt.alloc(), &want));
 }
 
-// What a walk has at a statement: its number, the head in force, whether a DEND was passed, and whether it counts.
+// The place of a walk: the statement's number, the head in force, whether a DEND was passed, and whether the statement counts.
 type Reached = (u32, Option<u8>, bool, bool);
 
-// Whether a walk over a source comes to these statements and no others.
+// Whether a walk over a source reaches these statements and no others.
 fn walks(source: &[u8], want: &[Reached]) -> bool {
     let mut walk = Walk::new(source);
     for &reached in want {
@@ -334,7 +334,7 @@ fn walks(source: &[u8], want: &[Reached]) -> bool {
     walk.next().is_none()
 }
 
-// Whether a walk over the source of such lines comes to these statements.
+// Whether a walk over the source of these lines reaches these statements and no others.
 fn walks_lines(alloc: Global, lines: &[&str], want: &[Reached]) -> bool {
     match source_of(alloc, lines) {
         Ok(source) => walks(source.as_slice(), want),

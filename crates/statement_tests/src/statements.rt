@@ -14,7 +14,7 @@ type Row = (
 // The texts of a line that is no statement.
 const NO_TEXTS: [&[u8]; 3] = [b"", b"", b""];
 
-// Whether these are the parts of a statement, and the slices behind them are empty.
+// Whether these are the parts of a statement, and the slices after them are empty.
 fn has_parts(s: &Statement<'_>, parts: &[&[u8]]) -> bool {
     for (part, wanted) in s.parts.iter().zip(parts) {
         if *part != *wanted {
@@ -131,7 +131,7 @@ const DAC_ROWS: [(&[u8], &[u8], &[&[u8]]); 14] = [
     ),
     (b"     TEXT  DAC 2,ABNO,TE", b"NO,TE", &[b"2", b"AB"]),
     (b"     TEXT  DAC 0,,,NO,TE", b"NO,TE", &[b"0", b"", b""]),
-    // What is no number of one or two digits leaves no text.
+    // If the length is not a number of one or two digits, the text is empty.
     (b"     TEXT  DAC N,NO,TE", b"NO,TE", &[b"N", b""]),
     (b"     TEXT  DAC  ,NO,TE", b"NO,TE", &[b" ", b""]),
     (b"     TEXT  DAC +,NO,TE", b"NO,TE", &[b"+", b""]),
@@ -158,14 +158,14 @@ const LINE: &[u8] =
 // Columns 16 to 75 of it.
 const OPERANDS: &[u8] = b"012345678901234567890123456789012345678901234567890123456789";
 
-// How many bytes of the line there are, and its shape.
+// How many bytes of the line are read, and its shape.
 const WITHOUT_TEXTS: [(usize, Shape); 3] = [
     (0, Shape::Blank),
     (5, Shape::Blank),
     (81, Shape::Long),
 ];
 
-// How many bytes of the line there are, its label, its operation and its only part. It has no remark.
+// How many bytes of the line are read, its label, its operation and its only part. It has no remark.
 const BEGINNINGS: [(usize, &[u8], &[u8], &[u8]); 7] = [
     (6, b"T", b"", b""),
     (12, b"TOTAL ", b"D", b""),
@@ -176,7 +176,7 @@ const BEGINNINGS: [(usize, &[u8], &[u8], &[u8]); 7] = [
     (80, b"TOTAL ", b"DC  ", OPERANDS),
 ];
 
-// Whether so many bytes of the line are read so.
+// Whether this number of bytes of the line gives this shape, these texts and these parts.
 fn begins(len: usize, shape: Shape, texts: [&[u8]; 3], parts: &[&[u8]]) -> bool {
     len <= LINE.len() && reads(&LINE[..len], shape, texts, parts)
 }
@@ -214,7 +214,7 @@ fn a_comment_and_a_blank_have_no_texts(rt: HostRuntime) {
     }
 }
 
-// A remark is free.
+// A remark may have any bytes.
 const ALLOWED: [Row; 3] = [
     (
         b"     AZ09.)+$*-/(= @ ()",

@@ -1,4 +1,4 @@
-// Words and numbers, by what a line of a script may hold.
+// Words and numbers in the lines of a script.
 use line_words::{cut_word, number, number_in};
 
 #[test]

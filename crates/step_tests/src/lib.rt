@@ -1,5 +1,5 @@
-//! Tests of what the next step may store, of the operator's script as it is read, of runs and single turns of small programs under it, and of
-//! texts that are none.
+//! Tests of the cells that the next step may store, of the operator's script as it is read, of runs and single turns of small
+//! programs under a script, and of texts that are not scripts.
 #![tactic(auto)]
 
 #[cfg(test)]

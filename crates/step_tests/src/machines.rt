@@ -12,12 +12,12 @@ use cpu_step::{Machine, Mode};
 use outside_io::{Host, MemHost, Unit};
 use std::alloc::{AllocError, Global};
 
-// What is wrong where a machine or a host of a test cannot be set up.
+// The error if a machine or a host of a test cannot be set up.
 #[derive(Debug, Drop)]
 pub(crate) enum MachineFault {
     // There is no memory.
     Memory(AllocError),
-    // A text does not go into core, or a unit could not be bound.
+    // A text does not fit into core, or a unit could not be bound.
     Text(TextFault),
 }
 
@@ -54,7 +54,7 @@ pub(crate) fn host(alloc: Global, deck: &[u8], data: &[u8]) -> Result<MemHost, M
 
 // A machine that runs, with this text from 00000 upwards.
 //
-// `M` is 1, 2 or 3. The error is want of memory, or a text that does not go into core.
+// `M` is 1, 2 or 3. The error is want of memory, or a text that does not fit into core.
 pub(crate) fn machine<const M: u32>(alloc: Global, text: &[u8]) -> Result<Machine<M>, MachineFault>
     requires { IsSize M }
 {

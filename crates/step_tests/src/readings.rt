@@ -1,11 +1,11 @@
-//! Scripts as they are read, line by line. The values are those of the grammar.
+//! Scripts as they are read, line by line. The expected values follow the grammar.
 
 use crate::turns::POSITIONS;
 use operator_script::{Action, Due, Script, ScriptLine};
 use outside_io::split_line;
 use std::alloc::Global;
 
-// Whether the text is read as these lines, for a core of so many positions.
+// Whether the text is read as these lines, for a core of this size.
 fn reads(alloc: Global, text: &[u8], positions: u32, want: &[ScriptLine]) -> bool {
     match Script::read(alloc, text, positions) {
         Ok(script) => script.lines_left() == want,
@@ -52,7 +52,7 @@ fn switches_are_read(alloc: Global) -> bool {
     true
 }
 
-// Whether bits of cells are turned round by their lines.
+// Whether bits of cells are flipped by their lines.
 fn flips_are_read(alloc: Global) -> bool {
     // The two lines, the cell, and the bit.
     let rows: [(&[u8], u32, u8); 4] = [
@@ -108,7 +108,7 @@ fn each_action_is_due_at_a_step_or_at_a_halt(rt: HostRuntime) {
     assert!(rt; flips_are_read(rt.alloc()));
 }
 
-// Whether the text is read as one line that turns the bit 0 of a cell round at step 0, or not read where there is no cell.
+// Whether the text is read as one line that flips the bit 0 of this cell at step 0, or is refused if no cell is given.
 fn reads_or_not(alloc: Global, text: &[u8], positions: u32, cell: Option<u32>) -> bool {
     let Some(at) = cell else {
         return Script::read(alloc, text, positions).is_err();

@@ -1,4 +1,4 @@
-//! Texts that are no script. The lines are those of the grammar.
+//! Texts that are not scripts by the grammar.
 
 use crate::turns::POSITIONS;
 use operator_script::{Script, ScriptFault};
@@ -94,7 +94,7 @@ fn the_first_bad_line_is_told_and_all_lines_count(rt: HostRuntime) {
         // the first of two
         (b"GO\nSTOP\n", 1),
         (b"HALT START\nAT 1\nAT 2\n", 2),
-        // of two CRs only one is dropped, and one within a line stays
+        // of two CRs only one is dropped, and a CR within a line stays
         (b"HALT START\r\r\n", 1),
         (b"HALT START\nHALT\rSTART\n", 2),
     ];

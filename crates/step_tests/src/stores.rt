@@ -1,10 +1,10 @@
-//! What the next step may store.
+//! The cells that the next step may store.
 
 use crate::machines::machine;
 use cpu_step::Stores;
 use std::alloc::Global;
 
-// Whether the instruction of this text, at 00000, may store so: when it's met first, and again.
+// Whether the instruction of this text, at 00000, may store these cells: when it's met first, and again.
 fn may_store(alloc: Global, text: &[u8], want: Stores) -> bool {
     let Ok(mut machine) = machine::<1>(alloc, text) else {
         return false;
@@ -14,7 +14,7 @@ fn may_store(alloc: Global, text: &[u8], want: Stores) -> bool {
 
 #[test]
 fn what_may_be_stored(rt: HostRuntime) {
-    // An instruction, and what it may store.
+    // An instruction, and the cells that it may store.
     let rows: [(&[u8], Stores); 16] = [
         (b"210050000600", Stores::Down(500)),
         (b"120050000007", Stores::Down(500)),

@@ -19,7 +19,7 @@ pub(crate) const POSITIONS: u32 = 20_000;
 // Types five digits and halts at 00012.
 const TYPES_AND_HALTS: &[u8] = b"38000360010048000000000000000000000012345|\n";
 
-// Halts at 00000; behind that it types five digits and halts at 00024.
+// Halts at 00000; after that it types five digits and halts at 00024.
 const HALTS_AND_TYPES: &[u8] = b"48000000000038000360010048000000000012345|\n";
 
 // A loop.
@@ -34,7 +34,7 @@ struct Scene {
 }
 
 impl Scene {
-    // The machine runs, or is halted at 00000 where it does not. None without memory, or where the text is no script.
+    // The machine runs, or is halted at 00000 if the Load key fails to start it. None without memory, or for an invalid script.
     fn new(alloc: Global, host: MemHost, text: &[u8]) -> Option<Scene>
         ensures mode { IfSome result (λ scene. is_faulted scene.machine.mode ≡ false) }
         ensures lines { IfSome result (λ scene. All (IsLine 20000) (lines_left scene.script)) }
@@ -54,7 +54,7 @@ impl Scene {
         })
     }
 
-    // With this deck.
+    // A scene whose host has this deck.
     fn of_deck(alloc: Global, deck: &[u8], text: &[u8]) -> Option<Scene>
         ensures mode { IfSome result (λ scene. is_faulted scene.machine.mode ≡ false) }
         ensures lines { IfSome result (λ scene. All (IsLine 20000) (lines_left scene.script)) }
@@ -91,7 +91,7 @@ const ROWS: [Row; 23] = [
         steps: 3,
         typed: b"12345",
     },
-    // once; behind the second halt there is no instruction
+    // each line starts it once; after the second halt there is no instruction
     Row {
         deck: HALTS_AND_TYPES,
         script: b"HALT START\nHALT START\n",
@@ -120,7 +120,7 @@ const ROWS: [Row; 23] = [
         steps: 3,
         typed: b"12345",
     },
-    // a line that is not due keeps those behind it waiting
+    // a line that is not due keeps the following lines waiting
     Row {
         deck: HALTS_AND_TYPES,
         script: b"AT 2 START\nHALT START\n",
@@ -129,7 +129,7 @@ const ROWS: [Row; 23] = [
         steps: 1,
         typed: b"",
     },
-    // the Load key reads the next card, and there is none
+    // the Load key reads the next card, but there is no card
     Row {
         deck: HALTS_AND_TYPES,
         script: b"HALT LOAD\n",
@@ -230,7 +230,7 @@ const ROWS: [Row; 23] = [
         steps: 2,
         typed: b"12045",
     },
-    // program switch 1 is asked for, and leads to a halt at 00024
+    // the program tests program switch 1, which leads to a halt at 00024
     Row {
         deck: b"460002400100490000000000480000000000\n",
         script: b"AT 4 SWITCH 1 ON\n",
@@ -247,7 +247,7 @@ const ROWS: [Row; 23] = [
         steps: 6,
         typed: b"",
     },
-    // one bit of the operation code at 00012 is turned round once the digits were typed: the cell
+    // one bit of the operation code at 00012 is flipped after the digits were typed: the cell
     // has an even count of ones
     Row {
         deck: TYPES_AND_HALTS,
@@ -281,7 +281,7 @@ const ROWS: [Row; 23] = [
         steps: 2,
         typed: b"12145",
     },
-    // the same bit twice is as it was
+    // a bit that is flipped twice is as it was
     Row {
         deck: TYPES_AND_HALTS,
         script: b"AT 1 FLIP 12 0\nAT 1 FLIP 12 0\n",
@@ -292,7 +292,7 @@ const ROWS: [Row; 23] = [
     },
 ];
 
-// Whether a run ends so.
+// Whether a run ends as its row says.
 fn runs(alloc: Global, row: &Row) -> bool {
     let Some(mut scene) = Scene::of_deck(alloc, row.deck, row.script) else {
         return false;
@@ -317,7 +317,7 @@ fn runs_under_a_script(rt: HostRuntime) {
     }
 }
 
-// A deck that was loaded, a script, the steps so far and the limit, and what the next turn is.
+// A deck that was loaded, a script, the steps so far and the limit, and how the next turn ends.
 type Turn = (&'static [u8], &'static [u8], u64, u64, TurnEnd);
 
 const TURNS: [Turn; 10] = [
@@ -335,7 +335,7 @@ const TURNS: [Turn; 10] = [
     (b"", b"", 0, 9, TurnEnd::Ended(Ending::Halted { at: 0 })),
 ];
 
-// Whether the next turn is this one.
+// Whether the next turn ends so.
 fn turns(alloc: Global, (deck, text, count, limit, want): Turn) -> bool {
     let Some(mut scene) = Scene::of_deck(alloc, deck, text) else {
         return false;
@@ -358,7 +358,7 @@ fn single_turns(rt: HostRuntime) {
     }
 }
 
-// Whether the first turn is an action of the script, which turns this bit of this cell round and leaves all else as it was.
+// Whether the first turn is an action of the script that flips this bit of this cell and leaves all else as it was.
 fn flips(alloc: Global, text: &[u8], at: u32, bit: u8) -> bool {
     let Some(before) = Scene::of_deck(alloc, TYPES_AND_HALTS, b"") else {
         return false;
@@ -377,7 +377,7 @@ fn flips(alloc: Global, text: &[u8], at: u32, bit: u8) -> bool {
     end == TurnEnd::Acted && steps == 0 && keeps_all_but(&scene.machine, &before.machine, at, bit)
 }
 
-// Whether a machine is as it was before, but for this bit of this cell.
+// Whether a machine is as it was before, except this bit of this cell.
 fn keeps_all_but(machine: &Machine<1>, before: &Machine<1>, at: u32, bit: u8) -> bool {
     machine.mode == before.mode
         && machine.regs == before.regs
@@ -385,7 +385,7 @@ fn keeps_all_but(machine: &Machine<1>, before: &Machine<1>, at: u32, bit: u8) ->
         && differs(machine, before, at, bit)
 }
 
-// Whether core is as it was before, but for this bit of this cell.
+// Whether core is as it was before, except this bit of this cell.
 fn differs(machine: &Machine<1>, before: &Machine<1>, at: u32, bit: u8) -> bool {
     for a in 0..POSITIONS {
         let turned = if a == at { bit } else { 0 };
@@ -411,7 +411,7 @@ fn a_flip_turns_one_bit_round(rt: HostRuntime) {
     }
 }
 
-// Whether a run leaves the indicators 16 and 17 so.
+// Whether a run leaves the indicators 16 and 17 in these states.
 fn lights(alloc: Global, text: &[u8], even: bool, odd: bool) -> bool {
     let Some(mut scene) = Scene::of_deck(alloc, TYPES_AND_HALTS, text) else {
         return false;
@@ -437,7 +437,7 @@ fn a_parity_stop_turns_its_indicator_on(rt: HostRuntime) {
     }
 }
 
-// Whether it is so that a step comes next, where nine are allowed.
+// Whether a step comes next exactly if it is wanted, with a limit of nine steps.
 fn comes_next(alloc: Global, deck: &[u8], text: &[u8], steps: u64, want: bool) -> bool {
     let Some(mut scene) = Scene::of_deck(alloc, deck, text) else {
         return false;
@@ -454,7 +454,7 @@ fn comes_next(alloc: Global, deck: &[u8], text: &[u8], steps: u64, want: bool) -
 #[test]
 fn a_step_comes_next(rt: HostRuntime) {
     let rows: [(&[u8], &[u8], u64, bool); 9] = [
-        // a machine that runs, below the limit: no line, a line at a later step, and one at a halt
+        // a machine that runs, below the limit: no line, a line at a later step, and a line at a halt
         (LOOPS, b"", 8, true),
         (LOOPS, b"AT 9 START", 8, true),
         (LOOPS, b"HALT START", 8, true),
@@ -463,7 +463,7 @@ fn a_step_comes_next(rt: HostRuntime) {
         // the operator's front line is due
         (LOOPS, b"AT 8 START", 8, false),
         (LOOPS, b"AT 0 SWITCH 1 ON", 8, false),
-        // behind a line that is not due
+        // a due line after a line that is not due
         (LOOPS, b"AT 9 START\nAT 0 START", 8, true),
         // a deck that was not loaded: the machine is halted
         (b"", b"", 8, false),
@@ -503,8 +503,8 @@ fn fails(alloc: Global, text: &[u8]) -> bool {
 
 #[test]
 fn a_fault_ends_the_run(rt: HostRuntime) {
-    // The fifth call of the host fails. The binding is the first, and three look for the first card and for one behind it; then the
-    // digits are typed, or the next card is looked for.
+    // The fifth call of the host fails. The first call is the binding, and three calls look for the first card and for a card
+    // after it. The fifth call types the digits, or looks for the next card.
     let rows: [&[u8]; 2] = [b"", b"AT 0 LOAD\n"];
     for text in rows {
         assert!(rt; fails(rt.alloc(), text));

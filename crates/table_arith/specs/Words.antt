@@ -4,7 +4,7 @@ use Rattle.std.specs.List.{range_with_len}
 use Rattle.digit_core.specs.{six, value_in, cell, unflagged_digit}
 use Rattle.table_arith.specs.Values.{value, decimal_digit, number_cell}
 
--- the value of the digit so many places above the units
+-- the value of the digit k places above the units
 abbrev pub digit_within : ℕ → ℕ → ℕ
 digit_within w k = value_in (six w (9 - k))
 
@@ -20,7 +20,7 @@ pair_within w i = 10 * value_in (six w (2 * i)) + value_in (six w (2 * i + 1))
 abbrev pub under : ℕ → ℕ → ℕ
 under number above = number + 4096 * above
 
--- the numbers of the upper three, and of all five, twelve bits each
+-- the numbers of the upper three pairs, and of all five pairs, twelve bits each
 abbrev pub upper_pairs : ℕ → ℕ
 upper_pairs w = under (pair_within w 2) (under (pair_within w 3) (pair_within w 4))
 
@@ -37,10 +37,10 @@ number_of_pairs pairs =
     (((twelve_bits pairs 0 * 100 + twelve_bits pairs 1) * 100 + twelve_bits pairs 2) * 100 + twelve_bits pairs 3) * 100
     + twelve_bits pairs 4
 
--- the cells of a word are those of a number's ten digits without flags, the units in the highest
+-- a word's cells have a number's ten digits without flags, the units in the highest
 abbrev pub HasDigits : ℕ → ℕ → Type 0
 HasDigits w magnitude = (k : ℕ) → k < 10 → six w (9 - k) ≡ cell (unflagged_digit (decimal_digit magnitude k))
 
--- the lowest n cells of a word are those of a number in a field of n digits
+-- the lowest n cells of a word are the cells of a number in a field of n digits
 abbrev pub HasField : ℕ → ℕ → ℕ → Bool → Type 0
 HasField w n magnitude minus = (k : ℕ) → k < n → six w (n - 1 - k) ≡ number_cell minus n magnitude k

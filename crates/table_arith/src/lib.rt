@@ -3,11 +3,13 @@
 //! A field is addressed at its units, which is its highest position, and runs down to a flagged digit that is not the units; a flag
 //! on the units means negative. A sum replaces the field at P and keeps its flags; a comparison stores nothing.
 //!
-//! Each cycle reads P's digit x, then Q's digit y, which is 0 once Q's field has ended, and looks up row x of the add table, in the
-//! column of y or, where it complements, of 9 - y, with the carry; column 10 is column 0 and forces a carry. The cell's value is the
-//! new digit and its flag the new carry, whatever stands there: the table from 00300 to 00399 is part of core. A complement addition
-//! is made where the signs differ to add and where they agree to subtract or compare; its first carry is 1. Where it leaves no carry,
-//! Q's number is the greater one: a sum then takes the complement of each digit in a second pass, and turns the sign round.
+//! Each cycle reads P's digit x, then Q's digit y, which is 0 after the end of Q's field. It looks up row x of the add table, in
+//! column y plus the carry or, if it complements, 9 - y plus the carry; column 10 is column 0 and forces a carry. The cell's
+//! value is the new digit and its flag the new carry, whatever core has there: the table from 00300 to 00399 is part of core.
+//!
+//! A complement addition is made if the signs differ to add, and if they agree to subtract or compare; its first carry is 1. If
+//! it leaves no carry, Q's number is the greater one: a sum then takes the complement of each digit in a second pass, and
+//! reverses the sign.
 #![tactic(auto)]
 
 ghost use Rattle.std.specs.Prelude.{◌≡◌, ◌<◌, Ok};
@@ -49,7 +51,7 @@ pub struct Cycle {
     pub carry: u8,
 }
 
-/// What the cycles of a pass over P's field have come to.
+/// The result of the cycles of a pass over P's field so far.
 ///
 /// Source: the digit cycles of a sum are this project's own.
 #[derive(Clone, Copy, Debug, PartialEq, Eq)]
@@ -69,7 +71,7 @@ pub struct Passed {
 pub struct Shown {
     /// The sum is zero, or the two numbers are equal: 12 is on.
     pub zero: bool,
-    /// The sum is negative, or the number at P is the lower one. 11 is on where this and `zero` are false.
+    /// The sum is negative, or the number at P is the lower one. 11 is on if this and `zero` are false.
     pub negative: bool,
     /// Q's field is longer than P's, or a true addition left a carry: 14 is turned on.
     pub overflow: bool,
@@ -126,10 +128,10 @@ fn compare_by_cycles<const M: u32>(
 /// Adds the field at `q` to the field at `p`, or subtracts it: the instructions A and S.
 ///
 /// `p` and `q` are units positions below the size of core. The digits of P's field are replaced and keep their flags; only the sign
-/// is turned round where Q's number is the greater one in a complement addition. 12 is on where every digit of P's field is 0, 11
-/// where it is not and the units have no flag. 14 is turned on where Q's field is longer than P's or a true addition leaves a carry,
-/// and else stays.
-/// Stops: those of `read_at` at P's, Q's and the table's positions, 2 where a field would go below 00000, and 3 for a value over 9;
+/// is reversed if Q's number is the greater one in a complement addition. 12 is on if every digit of P's field is 0; 11 is on if
+/// some digit isn't 0 and the units have no flag. 14 is turned on if Q's field is longer than P's or a true addition leaves a
+/// carry, and else stays.
+/// Stops: as `read_at` at P's, Q's and the table's positions, 2 if a field would go below 00000, and 3 for a value over 9;
 /// the digits of the cycles completed before stay stored, and the panel is as before.
 /// Source: CPU manual, add, subtract and add table; the order of readings in a cycle and when the indicators are set are this
 /// project's own.
@@ -157,9 +159,9 @@ pub fn add<const M: u32>(
 
 /// Compares the field at `p` with the field at `q`: the instruction C.
 ///
-/// `p` and `q` are units positions below the size of core. 12 is on where the numbers are equal, 11 where the one at P is greater. 14
-/// is turned on where Q's field is longer than P's, and else stays; of a longer field at Q as many digits count as P's has.
-/// Stops: those of `add`; the panel is as before.
+/// `p` and `q` are units positions below the size of core. 12 is on if the numbers are equal, 11 if the number at P is greater.
+/// 14 is turned on if Q's field is longer than P's, and else stays; only as many digits of Q's field count as P's field has.
+/// Stops: as `add`; the panel is as before.
 /// Source: CPU manual, compare and add table; the order of readings in a cycle, and that 14 is set, are this project's own.
 #[inline(always)]
 pub fn compare<const M: u32>(core: &Core<M>, p: u32, q: u32, panel: &mut Panel) -> Result<(), Stop>

@@ -1,7 +1,7 @@
-//! Sums and comparisons by the numbers of whole fields, where the standard add table stands in core.
+//! Sums and comparisons by the numbers of whole fields, if the standard add table is in core.
 //!
-//! Over the standard table the cycles of a sum come to the sum of the two numbers. So where both fields are short and good and lie apart
-//! from each other and from the table, the numbers are worked out and the digits of the result stored.
+//! With the standard table the cycles of a sum give the sum of the two numbers. So if both fields are short and good, a
+//! comparison uses their numbers. A sum does so if P's field also lies apart from Q's and from the table.
 
 ghost use Rattle.std.specs.Prelude.{◌≡◌, ◌+◌, ◌%◌, ◌<◌, ◌≤◌, ◌||◌, nat_lt, true, Ok, None, IfSome, ℕ, ◌^◌};
 ghost use Rattle.digit_core.specs.Size.{size};
@@ -48,7 +48,7 @@ fn power_of(n: u32) -> u64
     POWERS[n as usize]
 }
 
-// The number of the field whose units are at `p`, where it has at most ten digits and all are decimal.
+// The number of the field whose units are at `p`, if `p` is at least 9 and the field has at most ten digits, all decimal.
 #[inline(always)]
 fn number_at<const M: u32>(core: &Core<M>, p: u32) -> Option<Number>
     requires { p < size M }
@@ -181,7 +181,7 @@ fn store_sum<const M: u32>(
     }
 }
 
-// Makes a sum, where both fields and the table allow that it goes by numbers; else nothing is done.
+// Makes a sum by numbers, if both fields and the table allow it; else nothing is done.
 #[inline(always)]
 pub(crate) fn quick_sum<const M: u32>(
     core: &mut Core<M>,
@@ -212,7 +212,7 @@ pub(crate) fn quick_sum<const M: u32>(
     Some(store_sum(core, p, q, kind, x, y))
 }
 
-// Makes a comparison, where both fields and the table allow that it goes by numbers.
+// Makes a comparison by numbers, if both fields and the table allow it.
 #[inline(always)]
 pub(crate) fn quick_comparison<const M: u32>(core: &Core<M>, p: u32, q: u32) -> Option<Shown>
     requires p { p < size M }

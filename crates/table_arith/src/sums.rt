@@ -10,7 +10,7 @@ use crate::{Kind, Passed, Shown};
 use addr_indirect::{Stop, decimal_at, read_at};
 use digit_core::{Core, Digit};
 
-// Whether a complement addition is made: where the signs differ to add, where they agree to subtract.
+// Whether a complement addition is made: if the signs differ to add, and if they agree to subtract.
 pub(crate) fn complements(kind: Kind, p_sign: bool, q_sign: bool) -> bool
     ensures { result ≡ complements kind p_sign q_sign }
 {
@@ -34,7 +34,7 @@ fn overflows(complement: bool, r: Passed) -> bool
     r.q_goes_on || (!complement && r.carry == 1)
 }
 
-// Turns the flag of P's units round.
+// Reverses the flag of P's units.
 fn turn_sign<const M: u32>(
     core: &mut Core<M>,
     p: u32,
@@ -60,7 +60,7 @@ fn turn_sign<const M: u32>(
     })
 }
 
-// A sum after its first pass: a second pass and the other sign, where a complement addition ended without a carry.
+// A sum after its first pass: a second pass and the other sign, if a complement addition ended without a carry.
 fn completed<const M: u32>(
     core: &mut Core<M>,
     p: u32,

@@ -10,7 +10,7 @@ const DIGITS: u64 = 0x000f_00f0_0f00_f00f;
 // Two of four pairs of cells, from the lowest on.
 const PAIRS: u64 = 0x0000_000f_ff00_0fff;
 
-// The good cells of a number below 100, the tens in the lower one.
+// The good cells of a number below 100, the tens in the lower cell.
 const CELLS: [u16; 100] = [
     0x820, 0x060, 0x0a0, 0x8e0, 0x120, 0x960, 0x9a0, 0x1e0, 0x220, 0xa60, 0x801, 0x041, 0x081,
     0x8c1, 0x101, 0x941, 0x981, 0x1c1, 0x201, 0xa41, 0x802, 0x042, 0x082, 0x8c2, 0x102, 0x942,
@@ -22,10 +22,10 @@ const CELLS: [u16; 100] = [
     0x069, 0x0a9, 0x8e9, 0x129, 0x969, 0x9a9, 0x1e9, 0x229, 0xa69,
 ];
 
-// What a flag turns round in the good cell of a decimal digit: the bits F and C.
+// The bits that a flag reverses in the good cell of a decimal digit: F and C.
 const FLAG: u64 = 0x30;
 
-// The same in a word's highest cell.
+// The same bits in a word's highest cell.
 const HIGHEST_FLAG: u64 = 0x0c00_0000_0000_0000;
 
 // A word with zeros in its lowest `below` cells.
@@ -90,7 +90,7 @@ fn pair_cells(number: u32) -> u64
     CELLS[number as usize] as u64
 }
 
-// The good cells of the ten digits of a number, the units in the highest one.
+// The good cells of the ten digits of a number, the units in the highest cell.
 #[inline(always)]
 fn digit_cells(magnitude: u64) -> u64
     requires { magnitude < 10 ^ 10 }
@@ -108,7 +108,7 @@ fn digit_cells(magnitude: u64) -> u64
     c0 + (c1 << 12) + (c2 << 24) + (c3 << 36) + (c4 << 48)
 }
 
-// The cells of a field of n digits, its leftmost in the lowest one.
+// The cells of a field of n digits, its leftmost in the lowest cell.
 #[inline(always)]
 pub(crate) fn field_cells(magnitude: u64, n: u32, minus: bool) -> u64
     requires magnitude { magnitude < 10 ^ 10 }

@@ -1,2 +1,2 @@
-//! What an instruction does, one thing after another: definitions alone, for the contracts of the crates above.
+//! The effects of an instruction, one after another: only definitions, for the contracts of the crates above.
 #![tactic(auto)]

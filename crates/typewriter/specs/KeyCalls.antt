@@ -26,12 +26,12 @@ line_reading_ending u io.Failed = None
 abbrev pub ReadsLineBy : (List Entry → Trace Intake ⊤ Break) → Station Lines → Station Lines → TypeIo → Type 0
 ReadsLineBy t old new answer = ReadsIn (line_feed (unit_of old.from)) t old new (line_reading_ending (unit_of old.from) answer)
 
--- a line was read so, and there was room in core for so many of its characters: one reading more
+-- one more line was read, as `how` says, and core had room for `room` characters
 abbrev pub HasReadOneLine : ReadAs → ℕ → List Entry → List Reading → Lines → World → Type 0
 HasReadOneLine how room start readings keyboard w =
     (r : Reading) × (r.how ≡ how) × (r.room ≡ room) × HasReadLinesBy start (readings ++ r ∷ []) keyboard w
 
--- where none was read, none more
+-- one more line was read if the reading was done or stopped, and otherwise no line
 abbrev pub HasReadLineAsSaid : ReadAs → ℕ → List Entry → List Reading → Lines → World → TypeIo → Type 0
 HasReadLineAsSaid how room start readings keyboard w io.Done = HasReadOneLine how room start readings keyboard w
 HasReadLineAsSaid how room start readings keyboard w (io.Stop why) = HasReadOneLine how room start readings keyboard w
@@ -39,12 +39,12 @@ HasReadLineAsSaid how room start readings keyboard w io.NoKeys = HasReadLinesBy 
 HasReadLineAsSaid how room start readings keyboard w (io.Jam n) = HasReadLinesBy start readings keyboard w
 HasReadLineAsSaid how room start readings keyboard w io.Failed = HasReadLinesBy start readings keyboard w
 
--- what a reading adds to what the keyboard has read
+-- how a call adds to the readings of the keyboard
 abbrev pub ReadsLineAsSaid : ReadAs → ℕ → Lines → Lines → Seen → Seen → TypeIo → Type 0
 ReadsLineAsSaid how room old new before after answer = (start : List Entry) (readings : List Reading)
     → HasReadLinesBy start readings old before.world → HasReadLineAsSaid how room start readings new after.world answer
 
--- how a reading ends of which so much was stored
+-- the answer of a reading, by the result of storing its line
 abbrev pub line_stored_ending : Result ⊤ Stop → TypeIo
 line_stored_ending (Ok done) = io.Done
 line_stored_ending (Err why) = io.Stop why

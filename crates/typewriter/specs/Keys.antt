@@ -19,7 +19,7 @@ use Rattle.card_code.specs.Feed.{Feed, TakesNext, take_next}
 use Rattle.card_code.specs.declared.tally.ReadAs.TheVariants.{Digit}
 use Rattle.card_code.specs.Readings.{Reading, counted, tally_of, all_bad, entry_read, no_lines, AreNumbered}
 
--- the lines that are left, where they're told
+-- the lines that are left, if the host reveals them
 abbrev pub keys_left : Lines → World → Option (List Entry)
 keys_left keyboard w = entries_left keyboard w
 
@@ -32,7 +32,7 @@ pub record LooksAtUnit (u : unit.Unit) (before after : Seen) : Type 0 where
 abbrev pub line_feed : unit.Unit → Feed Lines (List ℕ)
 line_feed u = record { left = keys_left; Looks = LooksAtUnit u; next = next_keys }
 
--- those of the keyboard
+-- how lines of the keyboard are taken
 abbrev pub key_feed : Feed Lines (List ℕ)
 key_feed = line_feed units.Keys
 
@@ -61,9 +61,9 @@ read_line_alphameric n p keys = take_keys keys (store_pairs n (p - 1))
 
 -- What was read.
 
--- WHAT A KEYBOARD HAS READ since it was made before these lines, by the readings of its lines in their order: they are lines of Keys, numbered
--- in their order there, and the tally is of the bad characters that were stored of them. Where the lines were told, those that were read and those that
--- are left are all of them. No line was asked for before its turn.
+-- WHAT A KEYBOARD HAS READ since it was made with the lines `start`: the readings of its lines, in their order. They are numbered as
+-- the lines of Keys, and the tally has their bad characters that were stored. If the host reveals the lines, the lines read and the
+-- lines left are all lines of `start`. No line was asked for early.
 pub record HasReadLinesBy (start : List Entry) (readings : List Reading) (keyboard : Lines) (w : World) : Type 0 where
   pub unit : unit_of keyboard ≡ units.Keys
   pub turn : IsInTurn keyboard w
@@ -73,16 +73,16 @@ pub record HasReadLinesBy (start : List Entry) (readings : List Reading) (keyboa
   pub tallied : lines_tally keyboard ≡ tally_of (all_bad readings)
   pub all : IfSome (keys_left keyboard w) (λ left. start ≡ map entry_read readings ++ left)
 
--- it has, by some readings
+-- a keyboard has read some lines
 pub record HasReadLines (start : List Entry) (keyboard : Lines) (w : World) : Type 0 where
   pub readings : List Reading
   pub by : HasReadLinesBy start readings keyboard w
 
--- the reading of the line that was taken last, while nothing of it is stored yet
+-- the reading of the line that was taken last, before any of it is stored
 abbrev pub line_taken : Lines → List ℕ → Reading
 line_taken keyboard text = record { unit = units.Keys; line = lines_handed_out keyboard; text = text; how = Digit; room = 0 }
 
--- a line that is taken is one reading more; else the readings are the same
+-- the taking of a line adds that line to the readings; if no line is taken, they stay
 abbrev pub HasTaken : List Entry → List Reading → Lines → World → LineAnswer → Type 0
 HasTaken start readings keyboard w (answer.Line line) =
     HasReadLinesBy start (readings ++ line_taken keyboard (text_of_line line) ∷ []) keyboard w
@@ -90,15 +90,15 @@ HasTaken start readings keyboard w answer.End = HasReadLinesBy start readings ke
 HasTaken start readings keyboard w (answer.Jam n) = HasReadLinesBy start readings keyboard w
 HasTaken start readings keyboard w answer.Failed = HasReadLinesBy start readings keyboard w
 
--- what the taking of a line adds to the readings
+-- how the taking of a line adds to the readings of the keyboard
 abbrev pub TakesReading : Lines → Lines → Seen → Seen → LineAnswer → Type 0
 TakesReading old new before after got = (start : List Entry) (readings : List Reading)
     → HasReadLinesBy start readings old before.world → HasTaken start readings new after.world got
 
--- it goes on with that
+-- if the keyboard had read some lines before, it has read some lines after
 abbrev pub GoesOnReadingLines : Lines → Lines → Seen → Seen → Type 0
 GoesOnReadingLines old new before after = (start : List Entry) → HasReadLines start old before.world → HasReadLines start new after.world
 
--- it has read nothing yet
+-- a keyboard that has read nothing yet
 abbrev pub IsNewKeyboard : Lines → Type 0
 IsNewKeyboard keyboard = (start : List Entry) (w : World) → IfSome (keys_left keyboard w) (λ left. start ≡ left) → HasReadLines start keyboard w

@@ -7,7 +7,7 @@ use Rattle.outside_io.specs.declared.whole.Sent.TheVariants as sent
 use Rattle.outside_io.specs.{Seen, Goes, world_after_put, Stops}
 use Rattle.card_code.specs.TextOut.{panel_after_pair}
 
--- one more waits: the first of all these are typed, and the others are the line
+-- one more character waits: the first of all characters are typed, and the others are the line
 pub record HasOneMore (old : List ℕ) (c : ℕ) (new : List ℕ) (before after : Seen) : Type 0 where
   pub gone : List ℕ
   pub parts : gone ++ new ≡ old ++ c ∷ []
@@ -18,7 +18,7 @@ abbrev pub AddsChar : List ℕ → ℕ → List ℕ → Seen → Seen → Sent �
 AddsChar old c new before after sent.Done = HasOneMore old c new before after
 AddsChar old c new before after sent.Failed = Stops before after units.Typed old
 
--- some more wait
+-- some more characters wait
 pub record HasMoreWaiting (old cs new : List ℕ) (before after : Seen) : Type 0 where
   pub gone : List ℕ
   pub parts : gone ++ new ≡ old ++ cs

@@ -1,6 +1,7 @@
 -- What is typed.
 -- Source: CPU manual, write numerically, write alphamerically, dump numerically and typewriter control; the bytes, what
--- a bad pair is typed as, where a dump ends, and the order, are this project's own.
+-- a bad pair is typed as, the end of a dump, and the order, are this project's own. Like every call that types, a dump
+-- reads no key, so it answers neither NoKeys nor Jam.
 use Rattle.std.specs.Prelude.{ℕ, ◌+◌, ◌-◌, Bool, ◌==◌, ◌||◌, List, [], ◌∷◌, drop, if◌then◌else◌, Ok, Err, ⊤, ◌≡◌}
 use Rattle.digit_core.specs.Cell.{read_cell}
 use Rattle.digit_core.specs.declared.TheConstants.{RECORD_MARK}
@@ -74,7 +75,7 @@ control_char digit = if digit == 1 then 32 else if digit == 2 then 10 else 9
 abbrev pub control : ℕ → Trace ℕ ⊤ Stop
 control digit = does (control_char digit) (ends (Ok tt))
 
--- what the typing of these bytes does; it never reads, so no line lacks and no line jams
+-- what the typing of these bytes does; it reads no key, so it answers neither NoKeys nor Jam
 abbrev pub Types : Trace ℕ ⊤ Stop → Seen → Seen → TypeIo → Type 0
 Types t before after io.Done = Wrote units.Typed t before after (Ok tt)
 Types t before after (io.Stop s) = Wrote units.Typed t before after (Err s)
@@ -82,7 +83,7 @@ Types t before after io.NoKeys = ⊥
 Types t before after (io.Jam n) = ⊥
 Types t before after io.Failed = WroteFirst units.Typed t before after
 
--- what the typing of these pairs does, also to the panel
+-- what the typing of these pairs does, also to the panel; it answers neither NoKeys nor Jam
 abbrev pub TypesPairs : Trace Output ⊤ Stop → Panel → Seen → Panel → Seen → TypeIo → Type 0
 TypesPairs t panel before new_panel after io.Done = WrotePairs units.Typed t panel before new_panel after (Ok tt)
 TypesPairs t panel before new_panel after (io.Stop s) = WrotePairs units.Typed t panel before new_panel after (Err s)

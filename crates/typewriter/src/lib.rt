@@ -1,4 +1,4 @@
-//! The console typewriter: what is typed, and the lines of its keyboard that are still to be read.
+//! The console typewriter: what is typed, and how the lines of its keyboard are read into core.
 #![tactic(auto)]
 
 mod reading;

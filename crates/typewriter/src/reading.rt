@@ -17,18 +17,18 @@ use outside_io::Host;
 /// Reads the digits of the keyboard's next line into core from `p` upwards, one digit for each character.
 ///
 /// `p` is an address, 00000 to N-1. The line is taken first, and then its digits are stored one after another; an empty line is taken
-/// and stores nothing. A bad character is stored as an unflagged 0, and the read check 06 goes on as it is stored. `NoKeys` exactly
-/// where no line is left. `Jam` exactly where the next line is over 80 bytes; it stays, so each later call answers the same. `Failed`
-/// only where the host's count of faults rose. These three leave core, panel and keyboard as they were.
+/// and stores nothing. A bad character is stored as an unflagged 0, and turns on the read check 06 at once. `NoKeys` exactly if no line
+/// is left. `Jam` exactly if the next line is over 80 bytes; the line stays, so each later call answers `Jam` too. `Failed` only if the
+/// host's count of faults rose. These three leave core, panel and the lines of the keyboard as they were.
 ///
-/// The line counts as one that was read, and the bad ones among the characters that were stored of it are tallied, also where the
-/// instruction stops: a character for which there was no room in core is not among them. See [`Lines::bad_characters`].
+/// The line counts as read, and its bad characters that were stored are tallied, also if the instruction stops. A character for which
+/// core had no room is not tallied. See [`Lines::bad_characters`].
 ///
-/// No line is taken early: the host is asked only while the next line isn't held, so over a pipe a line is answered before the one
-/// behind it is typed. That holds of all that was asked since the keyboard was made, and not of this call alone: as long as only lines
-/// are read, the unit Keys was asked for no more than the lines that were taken and the next one need.
+/// No line is taken early: the host is asked only while the next line isn't held, so over a pipe a line is answered before the next
+/// line is typed. This holds for all calls since the keyboard was made, as long as they only read lines: the unit Keys was asked only
+/// when the lines taken or the next line needed bytes.
 ///
-/// Stops: 2 where a digit's position is past the end of core; the digits before it stay, and the line is gone.
+/// Stops: 2 if a digit's position is past the end of core; the digits before it stay, and the line is gone.
 /// Source: CPU manual, read numerically; what a line is, the order of the parts, and the tally are this project's own.
 pub fn read_num<const M: u32, H: Host>(
     core: &mut Core<M>,
@@ -63,11 +63,11 @@ pub fn read_num<const M: u32, H: Host>(
 /// Reads the pairs of digits of the keyboard's next line into core from `p - 1` and `p` upwards, one pair for each character.
 ///
 /// `p` is an odd address, below N. The line is taken first, and then its digits are stored one after another, without flags and the
-/// zone first; an empty line is taken and stores nothing. A bad character is stored as 00, and the read check 06 goes on as the first
-/// of its digits is stored. `NoKeys`, `Jam` and `Failed` come as with [`read_num`], and no line is taken early. The line and its bad
-/// characters are counted as with [`read_num`]; a character is stored where there is room for both of its digits.
+/// zone first; an empty line is taken and stores nothing. A bad character is stored as 00, and turns on the read check 06 as its first
+/// digit is stored. `NoKeys`, `Jam` and `Failed` are answered as by [`read_num`], and no line is taken early. The line and its bad
+/// characters are counted as with [`read_num`]; a character counts as stored if both of its digits have room.
 ///
-/// Stops: 2 where a digit's position is past the end of core; the digits before it stay, and the line is gone.
+/// Stops: 2 if a digit's position is past the end of core; the digits before it stay, and the line is gone.
 /// Source: CPU manual, read alphamerically; what a line is, the order of the parts, and the tally are this project's own.
 pub fn read_alpha<const M: u32, H: Host>(
     core: &mut Core<M>,
@@ -111,8 +111,8 @@ fn next_line<H: Host>(keys: &mut Lines, host: &mut H) -> LineAnswer
     keys.next_line(host)
 }
 
-// How a reading ends of whose line so much was stored. The bad ones among its first characters, as many as core had room for, are taken up;
-// while 06 is off behind a line that was stored whole, there are none.
+// The answer of a reading, by the result of storing its line. The bad characters among those that core had room for are tallied. If the
+// whole line was stored and 06 is off, no character was bad.
 fn stored_ending(
     keys: &mut Lines,
     how: ReadAs,

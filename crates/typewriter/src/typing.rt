@@ -19,7 +19,7 @@ use outside_io::{Host, Put, Sent, Unit, write_all};
 // How many characters are typed in one call at most.
 const LINE: usize = 80;
 
-/// How an instruction of the typewriter ends. One that types ends in Done, Stop or Failed.
+/// How an instruction of the typewriter ends. If it types, the answer is always `Done`, `Stop` or `Failed`.
 ///
 /// Source: this project's own.
 #[derive(Clone, Copy, Debug, PartialEq, Eq)]
@@ -39,9 +39,9 @@ pub enum TypeIo {
 /// Types the digits from `p` upwards, as object characters, up to a record mark, which is not typed.
 ///
 /// `p` is an address, 00000 to N-1. Up to 80 characters are typed in one call of the host. What was typed before a stop stays. `Failed`
-/// only where the host's count of faults rose: a first part is typed then.
+/// only if the host's count of faults rose: a first part is typed then.
 ///
-/// Stops: 2 where no record mark comes before the end of core, 4 and 5 for a bad cell.
+/// Stops: 2 if no record mark comes before the end of core, 4 and 5 for a bad cell.
 /// Source: CPU manual, write numerically.
 pub fn write_num<const M: u32, H: Host>(core: &Core<M>, p: u32, host: &mut H) -> TypeIo
     requires { p < size M }
@@ -73,15 +73,15 @@ pub fn write_num<const M: u32, H: Host>(core: &Core<M>, p: u32, host: &mut H) ->
     end(&line, Err(Stop::Address), host)
 }
 
-/// Types the characters of the pairs of digits from `p - 1` and `p` upwards, up to a pair whose second digit is a record mark; it is
-/// not typed.
+/// Types the characters of the pairs of digits from `p - 1` and `p` upwards, up to a pair whose second digit is a record mark; this
+/// pair is not typed.
 ///
-/// `p` is an odd address, below N. The first digit of a pair is its zone, and its cell is read first; flags are ignored. A pair that no
-/// character has is typed as a blank, and the write check 07 goes on as it is read. Up to 80 characters are typed in one call of the
-/// host, and those before a bad pair before 07 goes on. What was typed before a stop stays, and so does 07. `Failed` only where the
-/// host's count of faults rose: a first part is typed then.
+/// `p` is an odd address, below N. The first digit of a pair is its zone, and its cell is read first; flags are ignored. A pair that
+/// has no character is typed as a blank, and turns on the write check 07 when it is read. Up to 80 characters are typed in one call of
+/// the host; the characters before a bad pair are typed before 07 goes on. What was typed before a stop stays, and 07 stays too.
+/// `Failed` only if the host's count of faults rose: a first part is typed then.
 ///
-/// Stops: 2 where no record mark comes before the end of core, 4 and 5 for a bad cell.
+/// Stops: 2 if no record mark comes before the end of core, 4 and 5 for a bad cell.
 /// Source: CPU manual, write alphamerically; what a bad pair is typed as, and the order, are this project's own.
 pub fn write_alpha<const M: u32, H: Host>(
     core: &Core<M>,
@@ -132,7 +132,7 @@ pub fn write_alpha<const M: u32, H: Host>(
 /// Types the digits from `p` to the end of core, as object characters; record marks are typed too.
 ///
 /// `p` is an address, 00000 to N-1. Up to 80 characters are typed in one call of the host. What was typed before a stop stays. `Failed`
-/// only where the host's count of faults rose: a first part is typed then.
+/// only if the host's count of faults rose: a first part is typed then.
 ///
 /// Stops: 4 and 5 for a bad cell.
 /// Source: CPU manual, dump numerically; that it ends with the last digit of core is this project's own.
@@ -163,7 +163,7 @@ pub fn dump<const M: u32, H: Host>(core: &Core<M>, p: u32, host: &mut H) -> Type
     end(&line, Ok(()), host)
 }
 
-// The characters of the ten cells from `a` upwards, where core has them, each holds a digit, and none is a record mark.
+// The characters of the ten cells from `a` upwards, if core has them, each holds a digit, and none is a record mark.
 #[inline]
 fn typed_ten<const M: u32>(core: &Core<M>, a: u32) -> Option<[u8; 10]>
     requires { a ≤ size M }
@@ -180,7 +180,7 @@ fn typed_ten<const M: u32>(core: &Core<M>, a: u32) -> Option<[u8; 10]>
     }
 }
 
-// The characters of the ten cells from `a` upwards, where core has them and each holds a digit.
+// The characters of the ten cells from `a` upwards, if core has them and each holds a digit.
 #[inline]
 fn dumped_ten<const M: u32>(core: &Core<M>, a: u32) -> Option<[u8; 10]>
     requires { a ≤ size M }
@@ -193,7 +193,7 @@ fn dumped_ten<const M: u32>(core: &Core<M>, a: u32) -> Option<[u8; 10]>
     object_chars(core.ten(a))
 }
 
-// The word of the ten cells from `a` upwards, where core has them, each holds a digit, and none is a record mark.
+// The word of the ten cells from `a` upwards, if core has them, each holds a digit, and none is a record mark.
 #[inline]
 fn five_pairs<const M: u32>(core: &Core<M>, a: u32) -> Option<u64>
     requires { a ≤ size M }
@@ -212,7 +212,7 @@ fn five_pairs<const M: u32>(core: &Core<M>, a: u32) -> Option<u64>
     }
 }
 
-// Adds ten characters to the line. Where they don't fit, what waits is typed before.
+// Adds ten characters to the line. If they don't fit, the line is typed before.
 fn add_ten<H: Host>(line: &mut ArrayVec<u8, LINE>, chars: &[u8; 10], host: &mut H) -> Sent
     ensures { AddsAll line.old.items chars.now line.new.items
         (H.seen host.old) (H.seen host.new) result }
@@ -229,7 +229,7 @@ fn add_ten<H: Host>(line: &mut ArrayVec<u8, LINE>, chars: &[u8; 10], host: &mut 
     }
 }
 
-// Adds a character to the line. Where the line is full it is typed before.
+// Adds a character to the line. If the line is full, it is typed before.
 fn add<H: Host>(line: &mut ArrayVec<u8, LINE>, c: u8, host: &mut H) -> Sent
     ensures { AddsChar line.old.items c line.new.items (H.seen host.old) (H.seen host.new) result }
 {
@@ -246,7 +246,7 @@ fn add<H: Host>(line: &mut ArrayVec<u8, LINE>, c: u8, host: &mut H) -> Sent
     }
 }
 
-// Adds the character of a pair to the line. Before the write check of a bad pair goes on, what waits in the line is typed.
+// Adds the character of a pair to the line. Before the write check of a bad pair goes on, the line is typed.
 fn add_pair<H: Host>(
     line: &mut ArrayVec<u8, LINE>,
     zone: Digit,
@@ -270,7 +270,7 @@ fn add_pair<H: Host>(
     }
 }
 
-// Types what waits in the line.
+// Types the line, and empties it.
 fn send<H: Host>(line: &mut ArrayVec<u8, LINE>, host: &mut H) -> Sent
     ensures sends { Sends (H.seen host.old) (H.seen host.new) units.Typed line.old.items result }
     ensures empty { line.new.items ≡ [] }
@@ -280,7 +280,7 @@ fn send<H: Host>(line: &mut ArrayVec<u8, LINE>, host: &mut H) -> Sent
     sent
 }
 
-// Types what waits in the line, and then ends with this answer; `Failed` where the host failed.
+// Types the line, and then ends with this answer; `Failed` if the host failed.
 fn end<H: Host>(line: &ArrayVec<u8, LINE>, answer: Result<(), Stop>, host: &mut H) -> TypeIo
     ensures { Types (does_all line.now.items (ends answer))
         (H.seen host.old) (H.seen host.new) result }
@@ -297,7 +297,7 @@ fn end<H: Host>(line: &ArrayVec<u8, LINE>, answer: Result<(), Stop>, host: &mut 
 /// Moves the typewriter's carriage: types a blank, a line feed or a tab.
 ///
 /// `digit` is 1 for the blank, 2 for the line feed, which is byte 10, or 8 for the tab, which is byte 9. It never stops. `Failed` only
-/// where the host's count of faults rose: nothing is typed then.
+/// if the host's count of faults rose: nothing is typed then.
 /// Source: CPU manual, typewriter control; the bytes are this project's own.
 pub fn control<H: Host>(digit: u8, host: &mut H) -> TypeIo
     requires { IsTrue (is_control digit) }

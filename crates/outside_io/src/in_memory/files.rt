@@ -9,15 +9,15 @@ use crate::host::{SECTOR_LENGTH, UNIT_COUNT};
 use crate::names::BoundNames;
 use std::alloc::{AllocError, Global};
 
-// A file that a name stands for.
+// A file and its name.
 #[derive(Drop)]
 pub(crate) struct NamedFile {
     name: String,
     bytes: Vec<u8>,
 }
 
-// The files, and for each unit whether it is in use, under which name, its file's place in the list and how many of its bytes are gone; how many
-// bytes its last reading gave, and how many readings found no more.
+// The files, and for each unit: whether it is in use, its name, its file's place in the list, how many bytes of the file it has
+// read, how many bytes its last reading gave, and how many readings found no more.
 #[derive(Drop)]
 pub(crate) struct Files {
     alloc: Global,
@@ -53,7 +53,7 @@ impl Files {
         }
     }
 
-    // Adds a file in front of those of its name; nothing is done where the name stands for these bytes.
+    // Adds a file in front of older files of its name; nothing is done if the newest of these has these bytes.
     pub(crate) fn add(&mut self, name: &str, bytes: &[u8]) -> Result<(), AllocError>
         requires { IsIdle self.old }
         ensures ok { OnOk result (AddsFile self.old self.new name.now bytes.now) }
@@ -70,7 +70,7 @@ impl Files {
         Ok(())
     }
 
-    // The place of the file of this name, or past the end.
+    // The place of the first file of this name, or past the end.
     fn find(&self, name: &str) -> usize
         ensures { bytes_at self.now.named.items result ≡ bytes_named self.now.named.items name.now }
     {
@@ -82,7 +82,7 @@ impl Files {
         self.named.len()
     }
 
-    // The bytes that the name stands for, none where no file has it.
+    // The bytes of the first file of this name, none if there is no such file.
     fn bytes(&self, name: &str) -> &[u8]
         ensures { result.now ≡ file_bytes self.now name.now }
     {
@@ -106,14 +106,14 @@ impl Files {
         self.names.set(unit, name);
     }
 
-    // The name that the unit is bound to, where one is kept.
+    // The name that is kept for the unit, if any.
     pub(crate) fn name(&self, unit: Unit) -> Option<&[u8]>
         ensures { option_copied result ≡ name_of self.now.names unit }
     {
         self.names.get(unit)
     }
 
-    // How many bytes of the unit's rest were put into the buffer.
+    // Copies the unit's next bytes into the buffer, and gives their number.
     fn copy(&self, unit: Unit, buf: &mut [u8]) -> usize
         requires input { is_input unit ≡ true }
         requires room { 0 < length buf.old }
@@ -136,7 +136,7 @@ impl Files {
         copy_from(&file.bytes, start, buf)
     }
 
-    // Takes bytes of the unit into the buffer, says how many, and counts the reading.
+    // Takes bytes of the unit into the buffer, gives their number, and counts the reading.
     pub(crate) fn take(&mut self, unit: Unit, buf: &mut [u8]) -> usize
         requires input { is_input unit ≡ true }
         requires room { 0 < length buf.old }
@@ -150,7 +150,7 @@ impl Files {
         n
     }
 
-    // Reads a sector of the pack's file, or a blank one where no pack is bound.
+    // Reads a sector of the pack's file, or a blank one if no pack is bound.
     pub(crate) fn read_sector(&self, a: u32, into: &mut [u8; SECTOR_LENGTH])
         requires { a < ALL_SECTORS }
         ensures { into.new ≡ pack_sector_text (pack_of self.now) a }
@@ -165,7 +165,7 @@ impl Files {
     }
 }
 
-// Copies what stands from there on, as far as the buffer goes.
+// Copies the bytes from `start` on into the buffer, as many as fit, and gives their number.
 fn copy_from(bytes: &[u8], start: usize, buf: &mut [u8]) -> usize
     requires { 0 < length buf.old }
     ensures fits { result ≤ length buf.new }

@@ -1,4 +1,4 @@
-// A host in memory: it tells everything, and fails where it was told to.
+// A host in memory: it reveals everything, and fails at chosen calls.
 // Source: this project's own, for tests.
 ghost use Rattle.std.specs.Prelude.{◌≡◌, ◌≢◌, ◌<◌, ◌≤◌, [], ◌||◌, false, true, length, IfOk, IfSome, OnOk, OnErr};
 ghost use Rattle.std.specs.Option.{option_copied};
@@ -14,7 +14,7 @@ use crate::in_memory::texts::OutputTexts;
 use crate::{Bound, Drive, Host, Put, Take, Unit, host};
 use std::alloc::{AllocError, Global};
 
-// The calls of the trait: their number, those that are to fail, and the faults.
+// The calls of the trait: how many were made, the numbers of the calls that are to fail, and the count of faults.
 #[derive(Drop)]
 pub(crate) struct Calls {
     failing: Vec<u64>,
@@ -25,7 +25,7 @@ pub(crate) struct Calls {
 impl Calls {
     ghost use Rattle.outside_io.specs.CallCounts.{next_fails, CountsCall};
 
-    // Counts a call, and a fault where it is to fail.
+    // Counts a call, and a fault if the call is to fail.
     fn fails(&mut self) -> bool
         ensures listed { result ≡ next_fails self.old }
         ensures call { CountsCall self.old self.new }
@@ -51,11 +51,11 @@ impl Calls {
     }
 }
 
-/// A host in memory, which tells everything: named files, the names that units are bound to, what was written, how inputs
-/// were asked, and the pack.
+/// A host in memory, which reveals everything: named files, the names that units are bound to, the bytes written, how inputs
+/// were read, and the pack.
 ///
-/// A sector of the pack is what was last written to it since the pack's file was bound. Of any other the pack has what the file has, and
-/// nothing where no pack is bound; missing bytes read as the character 0.
+/// A sector of the pack has the bytes that were last written to it since the pack's file was bound. A sector that was not written
+/// has the file's bytes, or none if no pack is bound; missing bytes read as the character 0.
 ///
 /// One of its calls fails exactly if its number is in the list of calls that are to fail, or if it is a `put` on an output that has no
 /// room left. Bytes take room also if a binding empties the output later. The host reveals that list and the room that is left, so that
@@ -74,8 +74,8 @@ impl MemHost {
 
     /// A host without files, without calls that are to fail, with no unit in use and nothing written.
     ///
-    /// `room` is how many bytes each output takes, over all its bindings; that memory is taken here, and also that of all 80,000 sectors of the pack, about
-    /// eight million bytes. The error is want of memory.
+    /// `room` is how many bytes each output takes, over all its bindings. This call takes the memory for these bytes, and about
+    /// eight million bytes for the 80,000 sectors of the pack. The error is want of memory.
     pub fn new(alloc: Global, room: usize) -> Result<Self, AllocError>
         ensures seen { IfOk result (λ host. mem_seen host ≡ first_seen room) }
         ensures fresh { IfOk result (λ host. IsFresh (mem_world host)) }
@@ -94,10 +94,10 @@ impl MemHost {
         })
     }
 
-    /// Adds a named file, or puts these bytes in the place of those that the name stood for.
+    /// Adds a named file, or replaces the bytes of the file of this name.
     ///
-    /// No unit is in use. Nothing is done where the name stands for these bytes, and a name without a file stands for none. The error is
-    /// want of memory for the bytes of a change, and all is then as before.
+    /// No unit is in use. Nothing is done if the file of this name has these bytes; a name without a file counts as an empty
+    /// file. The error is want of memory for a change, and nothing has changed then.
     pub fn file(&mut self, name: &str, bytes: &[u8]) -> Result<(), AllocError>
         requires { IsFree (mem_world self.old) }
         ensures ok { OnOk result (GainsFile mem_world self.old self.new name.now bytes.now) }
@@ -111,8 +111,8 @@ impl MemHost {
 
     /// Lets the call of that number fail.
     ///
-    /// All calls of the trait are counted, from 1; the count stands still at 2^64 - 1. The error is want of memory, and all is then as
-    /// before.
+    /// All calls of the trait are counted, from 1; the count stays at 2^64 - 1. The error is want of memory, and nothing has
+    /// changed then.
     pub fn fail(&mut self, call: u64) -> Result<(), AllocError>
         ensures ok { OnOk result (mem_seen self.new ≡ with_failing_call call (mem_seen self.old)) }
         ensures err { OnErr result (mem_seen self.new ≡ mem_seen self.old) }
@@ -124,12 +124,12 @@ impl MemHost {
         Ok(())
     }
 
-    /// A law, and no call: if no call is to fail and each output has room, no fault was counted.
+    /// A law: if no call is to fail and each output has room, no fault was counted. The call does nothing.
     pub fn fault_law(&self)
         ensures { IfSome (mem_world self.now).limits (λ l. FailsNowhere l → (mem_seen self.now).faults ≡ 0) }
     {}
 
-    /// What was written to an output, never more than its room.
+    /// The bytes that were written to an output, never more than its room.
     pub fn shown(&self, unit: Unit) -> &[u8]
         requires { is_output unit ≡ true }
         ensures is { (mem_world self.now).written unit ≡ Some result.now }
@@ -138,7 +138,7 @@ impl MemHost {
         self.texts.text(unit)
     }
 
-    /// The name that a unit is bound to; None where it isn't bound, or its name has over 255 bytes.
+    /// The name that a unit is bound to; None if it isn't bound, or its name has over 255 bytes.
     pub fn bound_name(&self, unit: Unit) -> Option<&[u8]>
         ensures { option_copied result ≡ (mem_world self.now).names unit }
     {
@@ -147,8 +147,8 @@ impl MemHost {
 
     /// Writes the bytes to a sector of the pack, 0 to 79,999; all other sectors stay.
     ///
-    /// This is no call of the trait: it isn't counted and never fails, and it takes no memory. Once a pack is bound, all sectors are those
-    /// of its file.
+    /// This is not a call of the trait: it isn't counted and never fails, and it takes no memory. After a pack is bound, all
+    /// sectors are the file's.
     pub fn set_sector(&mut self, a: u32, text: &[u8; SECTOR_LENGTH])
         requires { a < ALL_SECTORS }
         ensures world { mem_world self.new ≡ with_sector_written a text.now (mem_world self.old) }
@@ -158,7 +158,7 @@ impl MemHost {
         self.sectors.set(a, text);
     }
 
-    /// The text of a sector of the pack, 0 to 79,999: 100 bytes, of which missing ones are the character 0.
+    /// The text of a sector of the pack, 0 to 79,999: 100 bytes, with the character 0 for each missing byte.
     pub fn sector(&self, a: u32) -> [u8; SECTOR_LENGTH]
         requires { a < ALL_SECTORS }
         ensures { sector_in (mem_world self.now) a ≡ Some result }
@@ -168,7 +168,7 @@ impl MemHost {
         text
     }
 
-    // Copies a sector: the written one, or that of the pack's file.
+    // Copies a sector: the written one, or else the pack file's.
     fn copy_sector(&self, a: u32, into: &mut [u8; SECTOR_LENGTH])
         requires { a < ALL_SECTORS }
         ensures { into.new ≡ pack_sector_text (pack_of_host self.now) a }

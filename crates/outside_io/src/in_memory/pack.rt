@@ -1,4 +1,4 @@
-// The sectors that were written, over those of the pack's file.
+// The written sectors, which replace the sectors of the pack's file.
 ghost use Rattle.std.specs.Prelude.{◌≡◌, ◌<◌, length, IfOk, slice_index_or};
 ghost use Rattle.outside_io.specs.declared.host.TheConstants.{ALL_SECTORS};
 
@@ -15,7 +15,7 @@ pub(crate) struct Sectors {
 impl Sectors {
     ghost use Rattle.outside_io.specs.Pack.{IsUnwritten, Writes};
 
-    // Room for all sectors, of which none is written.
+    // Room for all sectors; none is written.
     pub(crate) fn new(alloc: Global) -> Result<Self, AllocError>
         ensures { IfOk result IsUnwritten }
     {
@@ -24,14 +24,14 @@ impl Sectors {
         Ok(Sectors { written })
     }
 
-    // No sector is written any more.
+    // Forgets all written sectors.
     pub(crate) fn clear(&mut self)
         ensures { IsUnwritten self.new }
     {
         self.written.fill(None);
     }
 
-    // The bytes of a sector, where it was written.
+    // The bytes of a sector, None if it wasn't written.
     pub(crate) fn get(&self, a: u32) -> Option<[u8; SECTOR_LENGTH]>
         requires { a < ALL_SECTORS }
         ensures { result ≡ slice_index_or self.now.written.items a None }

@@ -1,4 +1,4 @@
-// A host that never fails: it tells its inputs, and drops what is written.
+// A host that never fails: it reveals its inputs, and drops the bytes that are written.
 // Source: this project's own, for tests.
 ghost use Rattle.std.specs.Prelude.{◌≡◌, ◌≢◌, false, OnOk, OnErr};
 ghost use Rattle.outside_io.specs.World.{ReadsSector, IsFree, IsFresh, blank_pack, no_files, GainsFile};
@@ -10,8 +10,9 @@ use std::alloc::{AllocError, Global};
 
 /// A host in memory that never fails: its count of faults stays at 0.
 ///
-/// It holds named files and tells what its inputs have left, and how they were asked. It drops what is written, and tells neither texts nor sectors: each sector
-/// reads as the character 0, a hundred times, also where a pack is bound. Its calls as a `Host` take no memory.
+/// It holds named files and reveals the bytes that its inputs have left, and how they were read. It drops the bytes that are
+/// written, and reveals neither texts nor sectors. Each sector reads as a hundred times the character 0, even if a pack is bound.
+/// Its calls as a `Host` take no memory.
 #[derive(Drop)]
 pub struct QuietHost {
     files: Files,
@@ -30,10 +31,10 @@ impl QuietHost {
         }
     }
 
-    /// Adds a named file, or puts these bytes in the place of those that the name stood for.
+    /// Adds a named file, or replaces the bytes of the file of this name.
     ///
-    /// No unit is in use. Nothing is done where the name stands for these bytes, and a name without a file stands for none. The error is
-    /// want of memory for the bytes of a change, and all is then as before.
+    /// No unit is in use. Nothing is done if the file of this name has these bytes; a name without a file counts as an empty
+    /// file. The error is want of memory for a change, and nothing has changed then.
     pub fn file(&mut self, name: &str, bytes: &[u8]) -> Result<(), AllocError>
         requires { IsFree (quiet_world self.old) }
         ensures ok { OnOk result (GainsFile quiet_world self.old self.new name.now bytes.now) }

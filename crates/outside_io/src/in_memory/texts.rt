@@ -1,4 +1,4 @@
-// What was written to each unit, in memory that was taken at once.
+// The bytes that were written to each unit, in memory that was taken at once.
 ghost use Rattle.std.specs.Prelude.{◌≡◌, ◌+◌, ◌-◌, ◌≤◌, ◌<◌, ◌++◌, ◌==◌, [], length, take, IfOk, vec_capacity};
 ghost use Rattle.outside_io.specs.Rooms.{unit_room};
 ghost use Rattle.outside_io.specs.declared.host.TheConstants.{UNIT_COUNT};
@@ -17,7 +17,7 @@ pub(crate) struct OutputText {
 }
 
 impl OutputText {
-    // An empty text with so much room.
+    // An empty text with this room.
     fn new(alloc: Global, room: usize) -> Result<Self, AllocError>
         ensures text { IfOk result (λ output. output.text.items ≡ []) }
         ensures room { IfOk result (λ output. output.room ≡ room) }
@@ -40,7 +40,7 @@ impl OutputText {
         self.text.clear();
     }
 
-    // How many bytes were added, as many as there is room for.
+    // Adds as many bytes of the piece as there is room for, and gives their number.
     fn add(&mut self, piece: &[u8]) -> usize
         requires { 0 < length piece.now }
         ensures text { self.new.text.items ≡ self.old.text.items ++ take result piece.now }
@@ -68,7 +68,7 @@ pub(crate) struct OutputTexts {
 impl OutputTexts {
     ghost use Rattle.outside_io.specs.Texts.{unit_text, room_of, Clears, Grows, AreEmpty};
 
-    // Empty texts, with room for the outputs alone.
+    // Empty texts; only outputs have room.
     pub(crate) fn new(alloc: Global, room: usize) -> Result<Self, AllocError>
         ensures { IfOk result (AreEmpty room) }
     {
@@ -96,7 +96,7 @@ impl OutputTexts {
         output.clear();
     }
 
-    // Adds bytes of the piece to the unit's text, and says how many.
+    // Adds bytes of the piece to the unit's text, and gives their number.
     pub(crate) fn add(&mut self, unit: Unit, piece: &[u8]) -> usize
         requires { 0 < length piece.now }
         ensures { Grows self.old self.new unit piece.now result }
@@ -107,7 +107,7 @@ impl OutputTexts {
     }
 }
 
-// The room of a unit's text: outputs alone have some.
+// The room of a unit's text: only outputs have room.
 fn unit_room(room: usize, unit: Unit) -> usize
     ensures { result ≡ unit_room room unit }
 {

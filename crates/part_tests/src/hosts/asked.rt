@@ -1,4 +1,4 @@
-// What is asked of the hosts, and of the files that they are over.
+// Questions that tests ask of the hosts and of their files.
 use crate::hosts::fake::Outside;
 use outside_io::{
     ALL_SECTORS, Bound, Cause, Doing, Drive, Host, Lockable, Put, RealHost, SECTOR_LENGTH, Take,
@@ -9,7 +9,7 @@ use std::io::ErrorKind;
 use std::os::unix::fs::FileExt;
 use std::rt::{Clock, Files};
 
-// Whether the sector is read, and begins so.
+// Whether the sector is read, and begins with `front`.
 pub(crate) fn reads<H: Host>(host: &mut H, a: u32, front: &[u8]) -> bool {
     let mut text = [0; SECTOR_LENGTH];
     (a as usize) < ALL_SECTORS
@@ -17,12 +17,12 @@ pub(crate) fn reads<H: Host>(host: &mut H, a: u32, front: &[u8]) -> bool {
         && text.starts_with(front)
 }
 
-// Whether the writing of a sector full of this character ends so.
+// Whether writing a sector full of this character ends so.
 pub(crate) fn writes<H: Host>(host: &mut H, a: u32, c: u8, end: Drive) -> bool {
     (a as usize) < ALL_SECTORS && host.write_sector(a, &[c; SECTOR_LENGTH]) == end
 }
 
-// Whether the writing of a sector as it is read ends so.
+// Whether writing a sector with the bytes that it has ends so.
 fn rewrites<H: Host>(host: &mut H, a: u32, end: Drive) -> bool {
     let mut text = [0; SECTOR_LENGTH];
     (a as usize) < ALL_SECTORS
@@ -30,12 +30,12 @@ fn rewrites<H: Host>(host: &mut H, a: u32, end: Drive) -> bool {
         && host.write_sector(a, &text) == end
 }
 
-// Whether the giving of this piece to an output ends so.
+// Whether giving this piece to an output ends so.
 fn gives<H: Host>(host: &mut H, unit: Unit, piece: &[u8], end: Put) -> bool {
     unit.is_output() && !piece.is_empty() && host.put(unit, piece) == end
 }
 
-// Whether the taking of up to ten bytes from an input ends so.
+// Whether taking up to ten bytes from an input ends so.
 fn takes<H: Host>(host: &mut H, unit: Unit, end: Take) -> bool {
     unit.is_input() && host.take(unit, &mut [0; 10]) == end
 }
@@ -63,18 +63,18 @@ pub(crate) enum Reason {
     NothingTaken,
 }
 
-// What such a host is asked, one thing after another, and how it answers.
+// A question that a test asks of a host over files, with the expected answer.
 #[derive(Clone, Copy)]
 pub(crate) enum Ask<'a> {
     // Bytes are given to an output.
     Put(Unit, &'a [u8], Put),
     // Up to ten bytes are taken from an input.
     Take(Unit, Take),
-    // A sector is read, and begins so.
+    // A sector is read, and begins with these bytes.
     Read(u32, &'a [u8]),
     // A sector is written, full of a character.
     Write(u32, u8, Drive),
-    // A sector is written as it is read.
+    // A sector is written with the bytes that it has.
     Rewrite(u32, Drive),
     // The file of this name has this text.
     Holds(&'a str, &'a [u8]),
@@ -84,7 +84,7 @@ pub(crate) enum Ask<'a> {
     Reason(Reason),
 }
 
-// Of the last failure the unit, and what was being done.
+// The unit of the last failure, and what the host was doing.
 fn place_of(trouble: Option<&Trouble>) -> Option<(Unit, Doing)> {
     match trouble {
         Some(trouble) => Some((trouble.unit, trouble.doing)),
@@ -107,7 +107,7 @@ fn is_reason(trouble: Option<&Trouble>, reason: Reason) -> bool {
     }
 }
 
-// Whether the host answers so.
+// Whether the host answers the question as expected.
 fn answers<R: Files + Print + Clock + AllocGlobal>(
     rt: &R,
     host: &mut RealHost<'_, R>,
@@ -128,7 +128,7 @@ where
     }
 }
 
-// Whether the host answers all of them so.
+// Whether the host answers all questions as expected.
 pub(crate) fn answers_all<R: Files + Print + Clock + AllocGlobal>(
     rt: &R,
     host: &mut RealHost<'_, R>,
@@ -145,7 +145,7 @@ where
     true
 }
 
-// Whether the binding of this file to a new host, if there is one, ends so, and the host answers all of them so then.
+// Whether a new host binds this file, if there is one, as expected, and then answers all questions as expected.
 pub(crate) fn host_answers(
     rt: &HostRuntime,
     file: Option<(Unit, &str, Bound)>,
@@ -159,7 +159,7 @@ pub(crate) fn host_answers(
     as_wanted && answers_all(rt, &mut host, asks)
 }
 
-// The same of a host over the runtime for tests.
+// Whether a new host over the runtime for tests binds and answers as expected.
 pub(crate) fn outside_answers(
     outside: &Outside<'_>,
     file: Option<(Unit, &str, Bound)>,

@@ -1,4 +1,4 @@
-// A runtime for tests: real files, which may take no more bytes than so many, and a standard output that is full at first.
+// A runtime for tests: real files, which may take only a first part of their bytes, and a standard output that is full at first.
 use outside_io::{Lockable, Sharing};
 use std::alloc::{Allocator, Global};
 use std::cell::Cell;
@@ -9,7 +9,7 @@ use std::os::unix::fs::FileExt;
 use std::rt::Clock;
 use std::time::Duration;
 
-// The standard output's file is the one of this name. Writing there is cut short once, and then full twice.
+// The standard output's file is the file `screen`. Writing there is interrupted once, and then the output is full twice.
 #[derive(Drop)]
 pub(crate) struct Outside<'a> {
     rt: &'a HostRuntime,
@@ -30,7 +30,7 @@ impl<'a> Outside<'a> {
         }
     }
 
-    // Its files take no byte past the first so many.
+    // Its files take no byte past the first `room` bytes.
     pub(crate) fn with_room(rt: &'a HostRuntime, room: u64) -> Self {
         Outside {
             rt,
@@ -41,7 +41,7 @@ impl<'a> Outside<'a> {
         }
     }
 
-    // How often it was waited for a millisecond.
+    // How often the host waited for a millisecond.
     pub(crate) fn waits(&self) -> u32 {
         self.waits.get()
     }

@@ -16,7 +16,7 @@ fn four_bound(alloc: Global, pack: &str, keys: &str) -> Option<MemHost> {
     if as_wanted { Some(host) } else { None }
 }
 
-// Whether such a host has this name of the unit.
+// Whether a host with four bound units has this name of the unit.
 fn keeps_name(alloc: Global, pack: &str, keys: &str, unit: Unit, want: Option<&[u8]>) -> bool {
     match four_bound(alloc, pack, keys) {
         Some(host) => host.bound_name(unit) == want,
@@ -41,7 +41,7 @@ fn each_unit_keeps_the_name_that_it_is_bound_to(rt: HostRuntime) {
     }
 }
 
-// Whether a host reads the sector that was set, and writes another one and none besides.
+// Whether a host reads the sector that was set, and writes another sector and no more.
 fn writes_one_sector(alloc: Global) -> bool {
     let Ok(mut host) = MemHost::new(alloc, 0) else {
         return false;
@@ -71,7 +71,7 @@ fn pack_bound(alloc: Global, file: &[u8]) -> Option<MemHost> {
     }
 }
 
-// Whether sectors 1 to 3 of such a host are these, and sector 2 alone becomes another one that is set.
+// Whether sectors 1 to 3 of a host with this pack are these, and setting sector 2 changes no other.
 fn has_sectors(alloc: Global, file: &[u8], sectors: &[[u8; 100]; 3], set: &[u8; 100]) -> bool {
     let Some(mut host) = pack_bound(alloc, file) else {
         return false;
@@ -93,7 +93,7 @@ fn a_bound_pack_has_the_sectors_of_its_file(rt: HostRuntime) {
     assert!(rt; has_sectors(rt.alloc(), &file, &sectors, &[b'3'; 100]));
 }
 
-// Whether neither the writing nor the reading of a sector changes it where they fail.
+// Whether a sector stays as it was if its writing and its reading fail.
 fn keeps_sector(alloc: Global) -> bool {
     let Ok(mut host) = MemHost::new(alloc, 0) else {
         return false;

@@ -53,7 +53,7 @@ fn without_a_file_the_pack_is_a_blank_one(rt: HostRuntime) {
     assert!(rt; host_answers(&rt, None, &asks));
 }
 
-// All memory is taken before the first sector is written: no later call can be refused any, and the last sector is reached at once.
+// All memory is taken before the first sector is written: no later call needs memory, and the last sector is reached at once.
 #[test]
 fn a_blank_pack_is_written_in_the_room_that_was_lent(rt: HostRuntime) -> Result<(), Fail> {
     let asks = [
@@ -70,10 +70,10 @@ fn a_blank_pack_is_written_in_the_room_that_was_lent(rt: HostRuntime) -> Result<
     Ok(())
 }
 
-// A sector is written without trouble.
+// A sector is written without an error.
 const KEPT: [Ask<'_>; 2] = [Ask::Write(0, b'1', Drive::Done), Ask::Trouble(None)];
 
-// Whether a second run is refused the file while a first one has it, which goes on.
+// Whether a second run can't bind the file while a first run has it, and the first run goes on.
 fn is_locked(rt: &HostRuntime, unit: Unit, name: &str) -> bool {
     let refused = [
         Ask::Trouble(Some((unit, Doing::Open))),
@@ -85,7 +85,7 @@ fn is_locked(rt: &HostRuntime, unit: Unit, name: &str) -> bool {
         && answers_all(rt, &mut first, &KEPT)
 }
 
-// Behind the first run a second one has the pack.
+// After the first run a second run has the pack.
 #[test]
 fn a_pack_is_locked_for_a_run(rt: HostRuntime) {
     assert!(rt; is_locked(&rt, Unit::Pack, "locked"));

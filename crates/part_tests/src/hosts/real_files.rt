@@ -9,7 +9,7 @@ use std::fs;
 use std::io::ErrorKind;
 use std::os::unix::fs::symlink;
 
-// Whether the second binding of a new host ends so, and the host answers all of them so then.
+// Whether the second binding of a new host ends so, and the host then answers all questions as expected.
 fn second_binding(
     rt: &HostRuntime,
     first: Unit,
@@ -28,7 +28,7 @@ fn second_binding(
     host.bind(second, other) == end && answers_all(rt, &mut host, asks)
 }
 
-// Whether the second of two units is bound without trouble.
+// Whether the second of two units is bound without an error.
 fn binds_both(
     rt: &HostRuntime,
     (first, name): (Unit, &str),
@@ -49,7 +49,7 @@ fn refuses(rt: &HostRuntime, (first, name): (Unit, &str), (second, other): (Unit
         && second_binding(rt, first, name, second, other, Bound::Failed, &asks)
 }
 
-// The same file by the same name, a hard link and a symbolic link.
+// Three names of one file: its own, a hard link and a symbolic link.
 const NAMES: [&str; 3] = ["same", "same_hard", "same_soft"];
 
 // Whether a file was there and is removed.
@@ -57,7 +57,7 @@ fn removed(rt: &HostRuntime, name: &str) -> bool {
     fs::remove_file(rt, name).is_ok()
 }
 
-// Whether the file and its links were made anew.
+// Whether the file and its links were made again.
 fn linked(rt: &HostRuntime) -> bool {
     for name in NAMES {
         removed(rt, name);
@@ -68,7 +68,7 @@ fn linked(rt: &HostRuntime) -> bool {
     file && hard && soft
 }
 
-// Whether two units bound to these names of a file end so, refused or not, and the file keeps its bytes.
+// Whether the binding of two units to these names of one file is refused or not, and the file keeps its bytes.
 fn ends_so(rt: &HostRuntime, first: (Unit, &str), second: (Unit, &str), refused: bool) -> bool {
     let as_wanted = if refused {
         refuses(rt, first, second)
@@ -80,8 +80,8 @@ fn ends_so(rt: &HostRuntime, first: (Unit, &str), second: (Unit, &str), refused:
 
 #[test]
 fn a_file_that_would_be_written_is_bound_once(rt: HostRuntime) {
-    // The first unit, the second one, whether the first has the file by its first name and the second by another, or the other way
-    // round, and whether the second is refused.
+    // The first unit, the second unit, whether the first has the file by its first name and the second by another, or the other
+    // way round, and whether the second is refused.
     let rows = [
         (Unit::Deck, Unit::Typed, true, true),
         (Unit::Punched, Unit::Data, false, true),
@@ -111,7 +111,7 @@ fn a_file_that_would_be_written_is_bound_once(rt: HostRuntime) {
     }
 }
 
-// An old output loses its bytes with the first new one.
+// An old output loses its bytes with the first new byte.
 #[test]
 fn an_old_output_stays_until_its_first_byte(rt: HostRuntime) {
     let before = b"of before".as_slice();
@@ -126,7 +126,7 @@ fn an_old_output_stays_until_its_first_byte(rt: HostRuntime) {
     assert!(rt; host_answers(&rt, Some((Unit::Typed, "typed", Bound::Yes)), &asks));
 }
 
-// Or with the first byte of the report. A pack keeps its bytes.
+// An old output also loses its bytes with the first byte of the report. A pack keeps its bytes.
 #[test]
 fn the_report_empties_an_old_output(rt: HostRuntime) {
     let before = b"of before".as_slice();
@@ -165,7 +165,7 @@ fn a_folder_is_no_input(rt: HostRuntime) {
     assert!(rt; host_answers(&rt, Some((Unit::Deck, ".", Bound::Yes)), &asks));
 }
 
-// What can't be bound is told with its unit and the system's reason.
+// The host reports a failed binding with its unit and the system's reason.
 #[test]
 fn a_failed_binding_tells_unit_and_cause(rt: HostRuntime) {
     for (unit, name, kind) in [
@@ -193,7 +193,7 @@ fn a_full_device_tells_its_cause(rt: HostRuntime) {
     assert!(rt; host_answers(&rt, Some((Unit::Typed, "/dev/full", Bound::Yes)), &asks));
 }
 
-// The file that the standard output goes to is no unit's.
+// No unit can have the file that the standard output goes to.
 #[test]
 fn the_standard_output_is_bound_to_no_unit(rt: HostRuntime) {
     let outside = Outside::new(&rt, "screen");
@@ -210,7 +210,7 @@ fn the_standard_output_is_bound_to_no_unit(rt: HostRuntime) {
     assert!(rt; holds(&rt, "screen", b"abc"));
 }
 
-// A standard output that is full is waited for, and a signal harms nothing.
+// The host waits for a standard output that is full, and a signal does no harm.
 #[test]
 fn a_full_standard_output_is_waited_for(rt: HostRuntime) {
     let outside = Outside::new(&rt, "/dev/null");

@@ -8,7 +8,7 @@ fn the_first_line_is_split_off(rt: HostRuntime) {
         // ended by a LF, with and without a CR
         (b"AB\nCD\n", Some((b"AB", b"CD\n"))),
         (b"AB\r\nCD", Some((b"AB", b"CD"))),
-        // of two CRs one is dropped, and one within a line stays
+        // of two CRs one is dropped, and a CR within a line stays
         (b"AB\r\r\n", Some((b"AB\r", b""))),
         (b"A\rB\n\n", Some((b"A\rB", b"\n"))),
         // no LF

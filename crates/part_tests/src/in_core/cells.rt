@@ -1,4 +1,4 @@
-//! Searches and copies of cells, each compared with the same one cell by cell, at each place of a word; the standard tables' law.
+//! Searches and copies of cells, each compared with a search or copy cell by cell, at each place of a word; a law of the tables.
 
 ghost use Rattle.std.specs.Prelude.{◌+◌, ◌<◌, ◌≤◌};
 ghost use Rattle.digit_core.specs.Size.{IsSize};
@@ -48,7 +48,7 @@ fn first_down<const M: u32>(core: &Core<M>, kind: u8, a: u32, n: u32) -> Option<
     None
 }
 
-// Puts a flag, a record mark and a bad cell behind one another four times, `gap` cells apart at the end of core.
+// Puts a flag, a record mark and a bad cell near the end of core, four times, `gap` cells apart.
 fn spread<const M: u32>(core: &mut Core<M>, gap: u32) -> bool
     requires { gap ≤ 50 }
 {
@@ -64,7 +64,7 @@ fn spread<const M: u32>(core: &mut Core<M>, gap: u32) -> bool
     done
 }
 
-// Whether the searches agree with those cell by cell, at each place of a word and each length to 40.
+// Whether the searches agree with searches cell by cell, at each place of a word and each length to 40.
 fn each_agrees<const M: u32>(core: &Core<M>) -> bool {
     let size = core.size();
     let mut same = true;
@@ -82,7 +82,7 @@ fn each_agrees<const M: u32>(core: &Core<M>) -> bool {
     same
 }
 
-// The same in a new core, with what is looked for `gap` cells apart at the end of core.
+// Whether the searches agree in a new core, with flags, marks and bad cells `gap` cells apart near its end.
 fn searches_agree<const M: u32>(alloc: Global, gap: u32) -> bool
     requires size { IsSize M }
     requires gap { gap ≤ 50 }
@@ -100,12 +100,12 @@ fn searches_at_each_place_of_a_word(rt: HostRuntime) {
     assert!(rt; searches_agree::<3>(rt.alloc(), 37));
 }
 
-// The cell that stood at `at`, of 200 cells.
+// The cell at `at`, of 200 cells before a copy.
 fn stood(cells: &[u8; 200], at: u32) -> u8 {
     if at < 200 { cells[at as usize] } else { 0 }
 }
 
-// Whether `n` cells copied from `from` to `to`, both below 160, are those that stood there, and all others as they were.
+// Whether `n` cells copied from `from` to `to`, both below 160, are as they were at `from`, and all other cells stay.
 fn copies_as_it_stood<const M: u32>(core: &mut Core<M>, to: u32, from: u32, n: u32) -> bool
     requires to { to < 160 }
     requires from { from < 160 }
@@ -138,7 +138,7 @@ fn copies_as_it_stood<const M: u32>(core: &mut Core<M>, to: u32, from: u32, n: u
     same
 }
 
-// Whether 1 to 25 cells are copied as they stood, to a place above and to one below, `o` cells into a word.
+// Whether 1 to 25 cells are copied as they were, to a place above and to a place below, `o` cells into a word.
 fn copies_of_each_length(alloc: Global, o: u32) -> bool
     requires { o < 10 }
 {

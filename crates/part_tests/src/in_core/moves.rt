@@ -24,7 +24,7 @@ fn field_by_digits(core: &mut Core<1>, p: u32, q: u32) -> Result<(), Stop> {
     Err(Stop::Address)
 }
 
-// A record, likewise.
+// A record moved one digit after another.
 fn record_by_digits(core: &mut Core<1>, p: u32, q: u32) -> Result<(), Stop> {
     let size = core.size();
     if p >= size || q >= size {
@@ -40,7 +40,7 @@ fn record_by_digits(core: &mut Core<1>, p: u32, q: u32) -> Result<(), Stop> {
     Err(Stop::Address)
 }
 
-// Whether `n` digits may stand at `a` and move to `p`.
+// Whether `n` digits may be at `a` and move to `p`.
 fn may_move(size: u32, a: u32, n: u32, p: u32) -> bool
     requires { 40 ≤ size }
     ensures few { result ≡ true → n ≤ 12 }
@@ -56,8 +56,8 @@ fn both_take(one: &mut Core<1>, other: &mut Core<1>, a: u32, text: &[u8]) -> boo
     write(one, a, text).is_ok() && write(other, a, text).is_ok()
 }
 
-// Whether two cores that are alike stay so where a field of `n` digits at `a` moves to `p`, once by the instruction and once one digit
-// after another.
+// Whether two equal cores stay equal if a field of `n` digits at `a` moves to `p`: in one core by the instruction, in the other
+// one digit after another.
 fn fields_agree(one: &mut Core<1>, other: &mut Core<1>, a: u32, n: u32, p: u32) -> bool {
     if !may_move(one.size(), a, n, p) {
         return false;
@@ -70,7 +70,7 @@ fn fields_agree(one: &mut Core<1>, other: &mut Core<1>, a: u32, n: u32, p: u32) 
         && one.words() == other.words()
 }
 
-// The same of a record.
+// Whether two equal cores stay equal if a record of `n` digits at `a` moves to `p` in these two ways.
 fn records_agree(one: &mut Core<1>, other: &mut Core<1>, a: u32, n: u32, p: u32) -> bool {
     if !may_move(one.size(), a, n, p) {
         return false;
@@ -98,7 +98,7 @@ fn moves_agree(one: &mut Core<1>, other: &mut Core<1>, n: u32) -> bool
     true
 }
 
-// Whether they agree for each number of digits from 2 to 12.
+// Whether moves agree for each number of digits from 2 to 12.
 fn all_agree(alloc: Global) -> bool {
     let (Ok(mut one), Ok(mut other)) = (Core::<1>::new(alloc), Core::<1>::new(alloc)) else {
         return false;

@@ -7,7 +7,7 @@ use core_texts::bound;
 use outside_io::{Bound, Drive, Host, MemHost, Put, Take, Unit};
 use std::alloc::Global;
 
-// A host in memory that hands out only so many bytes at a time.
+// A host in memory that hands out at most `most` bytes at a time.
 #[derive(Drop)]
 struct Narrow {
     host: MemHost,
@@ -48,7 +48,7 @@ struct Reader {
 }
 
 impl Reader {
-    // The lines of these bytes, of which the host hands out `most` at a time. Its call of the number `fails` fails. None without memory.
+    // The lines of these bytes. The host hands out `most` bytes at a time; its call number `fails` fails. None without memory.
     fn new(alloc: Global, bytes: &[u8], most: usize, fails: u64) -> Option<Reader> {
         let mut host = MemHost::new(alloc, 0).ok()?;
         host.file("deck", bytes).ok()?;
@@ -95,7 +95,7 @@ fn is_line(answer: LineAnswer, text: &[u8]) -> bool {
 
 const FULL: &[u8] = &[b'x'; 80];
 
-// 50 full lines of 82 bytes each, and then one of each kind.
+// 50 full lines of 82 bytes each, and then a line of each kind.
 fn long_deck() -> [u8; 4_116] {
     let mut bytes = [b'x'; 4_116];
     for k in 0..50usize {
@@ -106,7 +106,7 @@ fn long_deck() -> [u8; 4_116] {
     bytes
 }
 
-// Whether the lines of the long deck are the full ones and these, where so many bytes are handed out at a time.
+// Whether the lines of the long deck are the full lines and then the wanted lines, with `most` bytes handed out at a time.
 fn reads_long_deck(alloc: Global, most: usize, wanted: &[&[u8]]) -> bool {
     let Some(mut reader) = Reader::new(alloc, &long_deck(), most, 0) else {
         return false;
@@ -132,7 +132,7 @@ fn lines_are_the_same_however_they_are_cut(rt: HostRuntime) {
     }
 }
 
-// Whether the third line jams and stays, where these bytes, at most 4, stand behind its first 80.
+// Whether the third line jams and stays, if these bytes, at most 4, follow its first 80 bytes.
 fn jams_at_the_third_line(alloc: Global, behind: &[u8], most: usize) -> bool {
     if behind.len() > 4 {
         return false;
@@ -153,7 +153,7 @@ fn jams_at_the_third_line(alloc: Global, behind: &[u8], most: usize) -> bool {
 
 #[test]
 fn a_line_over_80_bytes_jams_and_stays(rt: HostRuntime) {
-    // What stands behind the 80 bytes of the third line.
+    // The bytes that follow the first 80 bytes of the third line.
     let behind: [&[u8]; 4] = [b"y\n", b"\r\r\n", b"\ry\n", b"y"];
     for one in behind {
         assert!(rt; jams_at_the_third_line(rt.alloc(), one, 1));
@@ -162,7 +162,7 @@ fn a_line_over_80_bytes_jams_and_stays(rt: HostRuntime) {
     }
 }
 
-// Whether just one answer is a failure, and the lines are these nonetheless, where three bytes are handed out at a time.
+// Whether exactly one answer is a failure, and the lines are these nonetheless, with three bytes handed out at a time.
 fn reads_behind_a_fault(alloc: Global, bytes: &[u8], fails: u64, texts: &[&[u8]]) -> bool {
     let Some(mut reader) = Reader::new(alloc, bytes, 3, fails) else {
         return false;
@@ -184,7 +184,7 @@ fn reads_behind_a_fault(alloc: Global, bytes: &[u8], fails: u64, texts: &[&[u8]]
     failed
 }
 
-// Whether it is known after a failure that a byte is left.
+// Whether the reader knows after a failure that a byte is left.
 fn knows_more_behind_a_fault(alloc: Global) -> bool {
     let Some(mut reader) = Reader::new(alloc, b"a", 1, 2) else {
         return false;
@@ -202,7 +202,7 @@ fn after_a_fault_the_lines_are_as_before(rt: HostRuntime) {
     assert!(rt; knows_more_behind_a_fault(rt.alloc()));
 }
 
-// Whether two lines are handed out before the call that fails, and nothing is left behind it.
+// Whether two lines are handed out before the call that fails, and no byte is left after it.
 fn needs_no_more(alloc: Global, most: usize, unneeded: u64) -> bool {
     let Some(mut reader) = Reader::new(alloc, b"1\n2\n", most, unneeded) else {
         return false;
@@ -221,7 +221,7 @@ fn nothing_is_taken_before_it_is_needed(rt: HostRuntime) {
     }
 }
 
-// Whether a line of 90 bytes jams, of which the call 2 takes 82, and call 3 fails if there is one.
+// Whether a line of 90 bytes jams: call 2 takes 82 of its bytes, and call 3 fails if it is made.
 fn jams_with_no_more_calls(alloc: Global) -> bool {
     let Some(mut reader) = Reader::new(alloc, &[b'x'; 90], 82, 3) else {
         return false;
@@ -231,11 +231,11 @@ fn jams_with_no_more_calls(alloc: Global) -> bool {
 
 #[test]
 fn a_jam_asks_the_host_no_more(rt: HostRuntime) {
-    // Of the line the call 2 takes 82 bytes, which no line has.
+    // Call 2 takes 82 bytes of the line and no LF: no valid line begins like this.
     assert!(rt; jams_with_no_more_calls(rt.alloc()));
 }
 
-// Whether the line of this text stands for the card of these columns.
+// Whether the line of this text gives a card with these columns.
 fn stands_for(alloc: Global, text: &[u8], columns: [u8; 80]) -> bool {
     let Some(mut reader) = Reader::new(alloc, text, 80, 0) else {
         return false;
@@ -253,8 +253,8 @@ fn a_line_stands_for_a_card(rt: HostRuntime) {
     assert!(rt; stands_for(rt.alloc(), b"12|", columns));
 }
 
-// Whether the first line is answered before the host is asked for the second one, where a line is handed out at a time: the call behind that
-// of the first line fails.
+// Whether the first line is answered before the reader asks the host for the second line. The host hands out a line at a time,
+// and the call after the first line fails.
 fn is_answered_first(alloc: Global) -> bool {
     let Some(mut reader) = Reader::new(alloc, b"1\n2\n", 2, 3) else {
         return false;
