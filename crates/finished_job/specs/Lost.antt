@@ -4,11 +4,11 @@ use Rattle.outside_io.specs.declared.host.Unit.TheVariants.{Punched}
 use Rattle.outside_io.specs.World.{World, most_faults}
 use Rattle.finished_job.specs.declared.counting.TheConstants.{CARD_BYTES}
 
--- how many bytes of a text of Punched are lost, as far as a count has room: none if a file is bound to it
+-- how many bytes of the text of Punched are lost, up to the greatest count; none if a file is bound to Punched
 abbrev pub lost_bytes : Bool → List ℕ → ℕ
 lost_bytes is_bound text = if is_bound then 0 else min (length text) most_faults
 
--- how many whole cards these bytes are: each is punched as the bytes of its 80 columns and a line feed
+-- how many whole cards these bytes are: a punched card has its 80 columns and a line feed
 abbrev pub cards_in_bytes : ℕ → ℕ
 cards_in_bytes bytes = bytes / CARD_BYTES
 

@@ -9,7 +9,7 @@ ghost use Rattle.finished_job.specs.Lost.{cards_in_bytes, lost_bytes};
 use crate::trouble::TellsTrouble;
 use outside_io::{Bound, Drive, Host, Put, SECTOR_LENGTH, Take, Trouble, Unit};
 
-// How many bytes a card is punched as: its 80 columns and a line feed.
+// How many bytes a punched card has: its 80 columns and a line feed.
 const CARD_BYTES: u64 = 81;
 
 /// A host that counts the cards that are punched on it while no file is bound to Punched.
@@ -21,14 +21,14 @@ pub struct Counting<H: Host> {
     /// The host within.
     pub host: H,
     is_bound: bool,
-    /// How many bytes Punched was given while no file was bound to it, at most 2^64 - 1.
+    /// How many bytes were written to Punched while no file was bound to it, at most 2^64 - 1; 0 after a file is bound.
     pub bytes: u64,
     ghost bound: { (H.seen host).world.in_use Punched ≡ is_bound },
     ghost counted: { ForSome ((H.seen host).world.written Punched) (λ text. bytes ≡ lost_bytes is_bound text) },
 }
 
 impl<H: Host> Counting<H> {
-    /// Counts from here on, over a host with no unit in use and no byte written.
+    /// Counts from 0, over a host with no unit in use and no byte written.
     pub fn over(host: H) -> Self
         requires { IsFresh (H.seen host).world }
         ensures { result.host ≡ host }
@@ -89,6 +89,8 @@ impl<H: Host> Host for Counting<H> {
 }
 
 impl<H: TellsTrouble> TellsTrouble for Counting<H> {
+    ghost trouble_of = { λ counting. H.trouble_of counting.host };
+
     fn trouble(&self) -> Option<&Trouble> {
         self.host.trouble()
     }

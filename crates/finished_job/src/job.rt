@@ -1,28 +1,22 @@
-// A whole job: with its message and its exit code.
+// A whole job, with its message and its code.
 // Source: this project's own.
 ghost use Rattle.outside_io.specs.World.{IsFresh};
-ghost use Rattle.job_messages.specs.Messages.{message_text};
-ghost use Rattle.finished_job.specs.WholeJob.{DoesAndSays, SaysEnding, SaysText};
+ghost use Rattle.finished_job.specs.WholeJob.{DoesAndSays, SaysEnding};
 
 use crate::counting::Counting;
 use crate::sink::Sink;
 use crate::trouble::TellsTrouble;
 use command_line::Read;
 use ibm1620_cli::ibm1620_read;
-use job_messages::{JobEnding, Message};
+use messages::{JobEnding, is_quiet, message};
 use std::alloc::Global;
-use std::fmt::InlineText;
 
-// How many bytes of a message are written at most if there is no memory for its text.
-const MESSAGE_ROOM: usize = 16_384;
-
-/// Does what the words say over a host, writes the message about it on `errors`, and answers the program's exit code, 0 to 13.
+/// Does the job of the words over a host, writes its message on `errors`, and answers the code with which the program ends.
 ///
-/// The job is the job of `ibm1620_answer`, and the code is the code of its status. The message is one piece, so that its lines
-/// stay together: the whole text, or, if there is no memory for it, as much of it as 16,384 bytes hold. It depends on this
-/// answer, these words, and the cards that were punched to no file. If it is empty, nothing is written.
+/// The job is the job of `ibm1620_answer`, and the code is the code of its status. The message is about this answer, the host's last failure, and
+/// the cards that were punched to no file. It is one piece, so that its lines stay together. If there is nothing to say, nothing is written.
 ///
-/// No unit of the host is in use, and no output has been given a byte.
+/// Before the call, no unit of the host is in use, and no byte has been written to an output.
 pub fn do_job<H: TellsTrouble, S: Sink>(
     alloc: Global,
     words: &[String],
@@ -31,14 +25,14 @@ pub fn do_job<H: TellsTrouble, S: Sink>(
     errors: &mut S,
 ) -> u8
     requires { IsFresh (H.seen host.old.host).world }
-    ensures { DoesAndSays words.now asks_console (H.seen host.old.host) (H.seen host.new.host) (S.said errors.old) (S.said errors.new) result }
+    ensures { DoesAndSays words.now asks_console (H.seen host.old.host) (H.seen host.new.host) (H.trouble_of host.new.host) (S.said errors.old) (S.said errors.new) result }
 {
     do_read_job(alloc, &Read::of(alloc, words), asks_console, host, errors)
 }
 
-/// Does the job of words that were read before: neither the job nor the message reads them again.
+/// Does the job of words that were read before, as `do_job` does. The words are not read again, neither for the job nor for the message.
 ///
-/// No unit of the host is in use, and no output has been given a byte.
+/// Before the call, no unit of the host is in use, and no byte has been written to an output.
 pub fn do_read_job<H: TellsTrouble, S: Sink>(
     alloc: Global,
     read: &Read<'_>,
@@ -47,7 +41,7 @@ pub fn do_read_job<H: TellsTrouble, S: Sink>(
     errors: &mut S,
 ) -> u8
     requires { IsFresh (H.seen host.old.host).world }
-    ensures { DoesAndSays read.now.words.now asks_console (H.seen host.old.host) (H.seen host.new.host) (S.said errors.old) (S.said errors.new) result }
+    ensures { DoesAndSays read.now.words.now asks_console (H.seen host.old.host) (H.seen host.new.host) (H.trouble_of host.new.host) (S.said errors.old) (S.said errors.new) result }
 {
     let answer = ibm1620_read(alloc, read, host);
     let status = answer.status;
@@ -60,39 +54,26 @@ pub fn do_read_job<H: TellsTrouble, S: Sink>(
         asks_console,
         lost_cards,
     };
-    say_ending(alloc, read, ending, errors);
+    say_ending(read, &ending, errors);
     status.code()
 }
 
-// Writes the message about this ending, if it is not empty.
-#[cold]
-#[inline(never)]
-fn say_ending<S: Sink>(alloc: Global, read: &Read<'_>, ending: JobEnding<'_>, errors: &mut S)
-    ensures { SaysEnding ending.entry read.now.words.now (S.said errors.old) (S.said errors.new) }
+// Writes the message about this ending, if there is something to say. A quiet job pays nothing for the room of a message.
+fn say_ending<S: Sink>(read: &Read<'_>, ending: &JobEnding<'_>, errors: &mut S)
+    ensures { SaysEnding ending.now (S.said errors.old) (S.said errors.new) }
 {
-    let message = Message::of(ending, read);
-    if message.is_empty() {
-        return;
-    }
-    say(alloc, &message, errors);
-}
-
-// Writes a message as one piece.
-fn say<S: Sink>(alloc: Global, message: &Message<'_>, errors: &mut S)
-    ensures { SaysText (message_text message.now) (S.said errors.old) (S.said errors.new) }
-{
-    match format!(in alloc; "{message}") {
-        Ok(text) => errors.say(text.as_str()),
-        Err(_) => say_without_memory(message, errors),
+    if !is_quiet(ending) {
+        say_message(read, ending, errors);
     }
 }
 
-// Writes a message, or a first part of it, as one piece, and takes no memory.
+// Writes the message about this ending, if there is a message.
 #[cold]
 #[inline(never)]
-fn say_without_memory<S: Sink>(message: &Message<'_>, errors: &mut S)
-    ensures { SaysText (message_text message.now) (S.said errors.old) (S.said errors.new) }
+fn say_message<S: Sink>(read: &Read<'_>, ending: &JobEnding<'_>, errors: &mut S)
+    ensures { SaysEnding ending.now (S.said errors.old) (S.said errors.new) }
 {
-    let text = InlineText::<MESSAGE_ROOM>::of(format_args!("{message}"));
-    errors.say(text.as_str());
+    if let Some(text) = message(ending, read) {
+        errors.say(text.as_str());
+    }
 }

@@ -11,7 +11,7 @@ pub trait Sink {
     /// The pieces that were written, one after another, if the sink reveals them.
     ghost said: { Self → Option (List (List ℕ)) };
 
-    /// Writes a piece, whole as far as it can; a failure is not reported.
+    /// Writes a whole piece, if the sink can; a failure is not reported.
     fn say(&mut self, piece: &str)
         ensures { Says (said self.old) (said self.new) piece.now };
 }

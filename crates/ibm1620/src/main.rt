@@ -5,12 +5,8 @@
 #![tactic(auto)]
 
 mod asked;
-#[cfg(test)]
-mod codes;
 mod fresh;
 mod job;
-#[cfg(test)]
-mod reports;
 mod standard;
 mod start;
 #[cfg(test)]

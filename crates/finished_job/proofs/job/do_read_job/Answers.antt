@@ -14,6 +14,7 @@ returns g c =
       answers = c.ibm1620_read-answer.ensures;
       ends = refl;
       of_answer = refl;
+      of_trouble = c.trouble-trouble.ensures;
       asks = refl;
       loses = counted_lost (world.written Punched) host.bytes c.cards-lost_cards.result host.is_bound (world.in_use Punched) host.bound host.counted c.cards-lost_cards.ensures;
       says = c.say_ending.ensures;
