@@ -230,12 +230,18 @@ function asKeyed(text) {
   const spelt = { "\u00c4": "AE", "\u00d6": "OE", "\u00dc": "UE", "\u00df": "SS" };
   return text.normalize("NFC").toUpperCase().replace(/[\u00c4\u00d6\u00dc\u00df]/g, c => spelt[c]).normalize("NFD").replace(/[\u0300-\u036f]/g, "").replace(/[^ -_]/g, " ").slice(0, 60);
 }
+// Whether a key is heard at this place. While the machine runs, the screen does not know yet that the run ends here: so it is asked for.
+async function isHeard() {
+  if (!view.s) return false;
+  const wasPlaying = visit.playing, turn = ++visit.turn;
+  stopPlaying();
+  if (wasPlaying && !await show(view.n) || turn !== visit.turn) return false;
+  return !view.s.end || view.s.end.kind === "HALT";
+}
 async function turned(key, on) {
-  const wasPlaying = visit.playing;
-  if (!view.s || view.s.end && view.s.end.kind !== "HALT") return;
-  ++visit.turn;
-  if (!await act(turnOf(key, on))) return;
-  if (await show(view.n) && wasPlaying) await run();
+  const wasPlaying = visit.playing, isHere = await isHeard(), turn = visit.turn;
+  if (isHere && (!await act(turnOf(key, on)) || !await show(view.n)) || turn !== visit.turn) return;
+  if (wasPlaying) await run();
 }
 
 // Drawing.
@@ -318,18 +324,18 @@ const GUIDES = {
 };
 // One bit of a digit fails, as a ring of core might.
 async function breakBit() {
-  const turn = ++visit.turn, state = visit.guideState, { cell, bit } = guide(), bits = bitsOf(view.s.core[cell]);
-  stopPlaying();
-  if (!bits || !await show(view.n) || turn !== visit.turn || !await act(`FLIP ${cell} ${bit}`)) return;
+  if (!await isHeard()) return;
+  const state = visit.guideState, { cell, bit } = guide(), bits = bitsOf(view.s.core[cell]);
+  if (!bits || !await act(`FLIP ${cell} ${bit}`)) return;
   state.bits = bits;
   await show(view.n);
   typewriter.read(true);
 }
 // Another digit takes the place of the sum: each bit that differs is turned.
 async function setSum(digit) {
+  if (!await isHeard()) return;
   const { cell } = guide(), now = bitsOf(view.s.core[cell]), then = bitsOf(String(digit));
   if (!now) return;
-  ++visit.turn;
   for (let i = 0; i < 6; i++) if (now[i] !== then[i] && !await act(`FLIP ${cell} ${5 - i}`)) return;
   visit.guideState.changed = "set";
   await show(view.n);
