@@ -1,4 +1,4 @@
-"""Figures of the console, measured in Chromium: what docs/console.md says of times, sizes and memory."""
+"""Figures of the console, measured in Chromium: its times, sizes and memory."""
 
 import re
 import statistics

@@ -90,7 +90,7 @@ def make_card(top):
     declared = [(f"<b>{row[0]}</b>", f"label: {row[2]}; {row[3]}") for row in map(texts, page_table(top, "assembler.md", "## Declaratives"))]
     lists = {title: [(f"<b>{row[0]}</b>", *row[1:]) for row in map(texts, page_table(top, *where))] for title, where in (
         ("Indicators", ("machine.md", "## Indicators")), ("Checks", ("machine.md", "## Stops")),
-        ("Codes and reports", ("usage.md", "## When something goes wrong")),
+        ("Codes and reports", ("cli.md", "## Exit codes")),
         ("Operator's script: AT n, or HALT, and then", ("formats.md", "The action is one of these:")))}
     lists["Debugger"] = [texts(row)[:2] for row in page_table(top, "debugger.md", "## The commands")]
     first = [FORM, *instructions(rows), *uniques(rows), SHEET]

@@ -112,7 +112,7 @@ def block(lines, place, is_item):
         number = taken(lines, is_of_list)
         return item_list(lines[:number], place), number
     quoted = first.startswith("> ")
-    number = taken(lines, lambda line: line.strip() and not HEADING.match(line) and not line.startswith(("|", "```"))
+    number = taken(lines, lambda line: line.strip() and not HEADING.match(line) and not line.startswith(("|", "```", "<!--"))
                    and (line is first or not ITEM.match(line)))
     text = inline("\n".join(line[2:] if quoted else line for line in lines[:number]), place)
     made = text if is_item else f"<p>{text}</p>"
